@@ -1,3 +1,5 @@
+pub mod WholeNumbers
+pub mod RingLemmas
 pub mod BitLemmas
 pub mod SignalLemmas
 pub mod PhaseLemmas

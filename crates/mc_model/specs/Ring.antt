@@ -48,6 +48,11 @@ final c (x ∷ xs) = final x xs
 abbrev pub rotated : List ℤ → List ℤ
 rotated xs = behind (neg_ℤ (final (pos 0) xs)) xs
 
+-- times `w ^ k`
+abbrev pub rotations : ℕ → List ℤ → List ℤ
+rotations zero a = a
+rotations (suc k) a = rotated (rotations k a)
+
 -- the product: `(x + w·a)·b = x·b + w·(a·b)`
 abbrev pub times : List ℤ → List ℤ → List ℤ
 times [] b = zeros (length b)

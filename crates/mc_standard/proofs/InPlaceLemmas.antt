@@ -4,9 +4,9 @@ use Rattle.std.proofs.lemmas.Bool.{eq-eqb, true≢false}
 use Rattle.mc_model.specs.Pattern.{Command, Prep, Ent, Meas, FixX, FixZ}
 use Rattle.mc_model.specs.Alike.{Misses}
 use Rattle.mc_model.specs.Valid.{prepared, measured, FitsBehind, IsLive, IsValid}
-use Rattle.mc_model.proofs.ValidLemmas.{measured-append, moved_on}
-use Rattle.mc_model.proofs.PlaceSums.{AllMiss}
-use Rattle.mc_model.proofs.RunningSums.{WellMade, Final, InPlace}
+use Rattle.mc_model.proofs.ValidLemmas.{measured-append, moved_on, prepared-append, gone_or_live}
+use Rattle.mc_standard.proofs.PlaceSums.{AllMiss}
+use Rattle.mc_standard.proofs.RunningSums.{WellMade, Final, InPlace}
 
 misses_gone : (inputs : ℕ) (before : List Command) (c : Command) (i : ℕ) → measured before i ≡ true → i < inputs + prepared before → FitsBehind inputs before c → Misses i c
 misses_gone inputs before (Prep q) i m h f = λ e. absurd (omega arith)

@@ -1,0 +1,7 @@
+use Rattle.mc_model.specs.Ring.{ring}
+use Rattle.mc_model.proofs.RingLemmas.{ring_laws}
+use Rattle.mc_standard.proofs.StandardAlike.{standard_alike}
+use Rattle.mc_standard.proofs.laws.standard_is_alike.Goals as goal
+
+pub returns : goal.returns
+returns c = λ half positive. standard_alike (ring half) (ring_laws half positive)
