@@ -9,3 +9,4 @@ pub mod AlikeLemmas
 pub mod ValidLemmas
 pub mod OddSums
 pub mod Refutation
+pub mod CircuitRows
