@@ -10,3 +10,4 @@ pub mod ValidLemmas
 pub mod OddSums
 pub mod Refutation
 pub mod CircuitRows
+pub mod GraphRows
