@@ -38,11 +38,11 @@ one_gate_translates = refl
 
 -- a wire that is called `q1` leaves `q2` as the first fresh name
 pub fresh_names : (translation 4 (record {
-      names = codes "q1" ∷ [];
-      inputs = 1;
-      outputs = 0 ∷ [];
-      gates = J 0 0 ∷ [];
-    })).names ≡ codes "q1" ∷ codes "q2" ∷ []
+  names = codes "q1" ∷ [];
+  inputs = 1;
+  outputs = 0 ∷ [];
+  gates = J 0 0 ∷ [];
+})).names ≡ codes "q1" ∷ codes "q2" ∷ []
 unfolding translation j_count digits
 fresh_names = refl
 
@@ -82,11 +82,11 @@ one_gate_table = refl
 
 -- `in a b`, CZ on them twice, `out a b`: equal edges cancel
 pub twice_entangled : standard_form (translation 4 (record {
-      names = codes "a" ∷ codes "b" ∷ [];
-      inputs = 2;
-      outputs = 0 ∷ 1 ∷ [];
-      gates = CZ 0 1 ∷ CZ 0 1 ∷ [];
-    }))
+  names = codes "a" ∷ codes "b" ∷ [];
+  inputs = 2;
+  outputs = 0 ∷ 1 ∷ [];
+  gates = CZ 0 1 ∷ CZ 0 1 ∷ [];
+}))
     ≡ record {
       names = codes "a" ∷ codes "b" ∷ [];
       inputs = 2;
@@ -98,11 +98,11 @@ twice_entangled = refl
 
 -- `in a`, `J` of one step and of two on `a`, `out a`
 pub two_gates_standard : standard_form (translation 4 (record {
-      names = codes "a" ∷ [];
-      inputs = 1;
-      outputs = 0 ∷ [];
-      gates = J 0 1 ∷ J 0 2 ∷ [];
-    }))
+  names = codes "a" ∷ [];
+  inputs = 1;
+  outputs = 0 ∷ [];
+  gates = J 0 1 ∷ J 0 2 ∷ [];
+}))
     ≡ record {
       names = codes "a" ∷ codes "q1" ∷ codes "q2" ∷ [];
       inputs = 1;
@@ -148,11 +148,11 @@ three_gates_standard_form = record {
 }
 
 pub three_gates_standard : standard_form (translation 4 (record {
-      names = codes "a" ∷ [];
-      inputs = 1;
-      outputs = 0 ∷ [];
-      gates = J 0 1 ∷ J 0 2 ∷ J 0 3 ∷ [];
-    }))
+  names = codes "a" ∷ [];
+  inputs = 1;
+  outputs = 0 ∷ [];
+  gates = J 0 1 ∷ J 0 2 ∷ J 0 3 ∷ [];
+}))
     ≡ three_gates_standard_form
 unfolding digits negated translation translated last_qubits preparations j_count sum_over_places x_part x_sum first_part second_part first_sum second_sum preparations_of is_edge pairs_at pairs_below measurements_with corrections_below standard_commands standard_form prepared measured toggled toggled_all
 three_gates_standard = refl
@@ -218,12 +218,48 @@ three_gates_shifted =
       names = refl;
       inputs = refl;
       outputs = refl;
-      commands =
-          (refl, (refl, (refl,
-          (refl, refl, (refl, refl, (refl, refl,
-          (refl, refl, shifted_none rows, refl,
-          (refl, refl, shifted_first, refl,
-          (refl, refl, shifted_second, refl,
-          (refl, shifted_third,
-          (refl, shifted_second, tt)))))))))));
+      commands = (
+        refl,
+        (
+          refl,
+          (
+            refl,
+            (
+              refl,
+              refl,
+              (
+                refl,
+                refl,
+                (
+                  refl,
+                  refl,
+                  (
+                    refl,
+                    refl,
+                    shifted_none rows,
+                    refl,
+                    (
+                      refl,
+                      refl,
+                      shifted_first,
+                      refl,
+                      (
+                        refl,
+                        refl,
+                        shifted_second,
+                        refl,
+                        (
+                          refl,
+                          shifted_third,
+                          (refl, shifted_second, tt),
+                        ),
+                      ),
+                    ),
+                  ),
+                ),
+              ),
+            ),
+          ),
+        ),
+      );
     }

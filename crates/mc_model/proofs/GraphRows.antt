@@ -59,25 +59,25 @@ pub chain_depth : depth_of chain chain_layer ≡ 3
 chain_depth = refl
 
 pub chain_made : flow_pattern chain chain_sets chain_layer ≡ record {
-      names = codes "a" ∷ codes "b" ∷ codes "c" ∷ codes "d" ∷ [];
-      inputs = 1;
-      outputs = 3 ∷ [];
-      commands =
-          Prep 1 ∷ Prep 2 ∷ Prep 3 ∷ Ent 0 1 ∷ Ent 1 2 ∷ Ent 2 3
-          ∷ Meas 0 0 no_signal no_signal ∷ FixX 1 (signal_of 0) ∷ FixX 3 (signal_of 0)
-          ∷ Meas 1 0 no_signal no_signal ∷ FixX 2 (signal_of 1) ∷ FixZ 3 (signal_of 1)
-          ∷ Meas 2 0 no_signal no_signal ∷ FixX 3 (signal_of 2) ∷ [];
-    }
+  names = codes "a" ∷ codes "b" ∷ codes "c" ∷ codes "d" ∷ [];
+  inputs = 1;
+  outputs = 3 ∷ [];
+  commands =
+      Prep 1 ∷ Prep 2 ∷ Prep 3 ∷ Ent 0 1 ∷ Ent 1 2 ∷ Ent 2 3
+      ∷ Meas 0 0 no_signal no_signal ∷ FixX 1 (signal_of 0) ∷ FixX 3 (signal_of 0)
+      ∷ Meas 1 0 no_signal no_signal ∷ FixX 2 (signal_of 1) ∷ FixZ 3 (signal_of 1)
+      ∷ Meas 2 0 no_signal no_signal ∷ FixX 3 (signal_of 2) ∷ [];
+}
 unfolding parity joins flow_pattern measuring_order corrected_measurement preparations
 chain_made = refl
 
 -- each vertex is followed by its neighbour: one wire, with three gates
 pub chain_extracted : extracted_circuit 4 chain suc chain_layer ≡ record {
-      names = codes "a" ∷ [];
-      inputs = 1;
-      outputs = 0 ∷ [];
-      gates = J 0 0 ∷ J 0 0 ∷ J 0 0 ∷ [];
-    }
+  names = codes "a" ∷ [];
+  inputs = 1;
+  outputs = 0 ∷ [];
+  gates = J 0 0 ∷ J 0 0 ∷ J 0 0 ∷ [];
+}
 unfolding joins measuring_order chain_start extracted_gates extracted_circuit negated
 chain_extracted = refl
 
@@ -145,20 +145,20 @@ pub two_outputs_depth : depth_of two_outputs (λ v. 0) ≡ 0
 two_outputs_depth = refl
 
 pub two_outputs_made : flow_pattern two_outputs (λ i. all_zero) (λ v. 0) ≡ record {
-      names = codes "a" ∷ codes "b" ∷ [];
-      inputs = 1;
-      outputs = 0 ∷ 1 ∷ [];
-      commands = Prep 1 ∷ Ent 0 1 ∷ [];
-    }
+  names = codes "a" ∷ codes "b" ∷ [];
+  inputs = 1;
+  outputs = 0 ∷ 1 ∷ [];
+  commands = Prep 1 ∷ Ent 0 1 ∷ [];
+}
 unfolding flow_pattern measuring_order preparations
 two_outputs_made = refl
 
 pub two_outputs_extracted : extracted_circuit 4 two_outputs (λ v. v) (λ v. 0) ≡ record {
-      names = codes "a" ∷ codes "b" ∷ [];
-      inputs = 1;
-      outputs = 0 ∷ 1 ∷ [];
-      gates = CZ 0 1 ∷ [];
-    }
+  names = codes "a" ∷ codes "b" ∷ [];
+  inputs = 1;
+  outputs = 0 ∷ 1 ∷ [];
+  gates = CZ 0 1 ∷ [];
+}
 unfolding measuring_order chain_start extracted_gates extracted_circuit
 two_outputs_extracted = refl
 
@@ -183,13 +183,13 @@ two_outputs_map = refl
 -- ---- the graph of a pattern with two gates in a row
 
 pub graph_of_two_gates : graph_of (record {
-      names = codes "a" ∷ codes "q1" ∷ codes "q2" ∷ [];
-      inputs = 1;
-      outputs = 2 ∷ [];
-      commands =
-          Prep 1 ∷ Ent 0 1 ∷ Meas 0 7 no_signal no_signal ∷ FixX 1 (signal_of 0)
-          ∷ Prep 2 ∷ Ent 1 2 ∷ Meas 1 6 no_signal no_signal ∷ FixX 2 (signal_of 1) ∷ [];
-    })
+  names = codes "a" ∷ codes "q1" ∷ codes "q2" ∷ [];
+  inputs = 1;
+  outputs = 2 ∷ [];
+  commands =
+      Prep 1 ∷ Ent 0 1 ∷ Meas 0 7 no_signal no_signal ∷ FixX 1 (signal_of 0)
+      ∷ Prep 2 ∷ Ent 1 2 ∷ Meas 1 6 no_signal no_signal ∷ FixX 2 (signal_of 1) ∷ [];
+})
     ≡ record {
       names = codes "a" ∷ codes "q1" ∷ codes "q2" ∷ [];
       inputs = 1;

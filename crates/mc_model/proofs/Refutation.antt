@@ -24,17 +24,17 @@ pub counted_twice : (g : OpenGraph) (s y : Bits) →
     ≡ odd (size g) (λ w. s w && odd_neighbourhood g y w)
 counted_twice g s y =
     odd-same (size g) (λ v. y v && odd_neighbourhood g s v)
-      (λ v. odd (size g) (λ w. y v && (s w && joins g.edges v w)))
-      (λ v _. sym (odd-and (size g) (y v) (λ w. s w && joins g.edges v w)))
+    (λ v. odd (size g) (λ w. y v && (s w && joins g.edges v w)))
+    (λ v _. sym (odd-and (size g) (y v) (λ w. s w && joins g.edges v w)))
     ∙ odd-exchange (size g) (size g) (λ v w. y v && (s w && joins g.edges v w))
     ∙ odd-same (size g) (λ w. odd (size g) (λ v. y v && (s w && joins g.edges v w)))
-      (λ w. s w && odd_neighbourhood g y w)
-      (λ w _.
-        odd-same (size g) (λ v. y v && (s w && joins g.edges v w))
-          (λ v. s w && (y v && joins g.edges w v))
-          (λ v _. and_swap (y v) (s w) (joins g.edges v w)
-            ∙ ap (λ (b : Bool). s w && (y v && b)) (joins_comm g.edges v w))
-        ∙ odd-and (size g) (s w) (λ v. y v && joins g.edges w v))
+    (λ w. s w && odd_neighbourhood g y w)
+    (λ w _.
+    odd-same (size g) (λ v. y v && (s w && joins g.edges v w))
+    (λ v. s w && (y v && joins g.edges w v))
+    (λ v _. and_swap (y v) (s w) (joins g.edges v w)
+    ∙ ap (λ (b : Bool). s w && (y v && b)) (joins_comm g.edges v w))
+    ∙ odd-and (size g) (s w) (λ v. y v && joins g.edges w v))
 
 and_by : (a b : Bool) → (a ≡ true → b ≡ true → ⊥) → a && b ≡ false
 and_by false b h = refl
@@ -54,15 +54,15 @@ refuted_at : (g : OpenGraph) (B : Bits) (y : Bits) (s : Bits) (layer : ℕ → �
     ((v : ℕ) → v < size g → layer v < layer u → B v ≡ false) → ⊥
 refuted_at g B y s layer u l c r outside =
     let one : odd (size g) (λ v. y v && odd_neighbourhood g s v) ≡ true =
-        odd-one (size g) (λ v. y v && odd_neighbourhood g s v) u l
-        (ap₂ (λ (a b : Bool). a && b) r.holds c.odd_itself)
-        (λ v i ne. and_by (y v) (odd_neighbourhood g s v) (λ p q.
-          clash (B v) (r.within v i p) (outside v i (c.odd_later v i ne q)))) in
+    odd-one (size g) (λ v. y v && odd_neighbourhood g s v) u l
+    (ap₂ (λ (a b : Bool). a && b) r.holds c.odd_itself)
+    (λ v i ne. and_by (y v) (odd_neighbourhood g s v) (λ p q.
+    clash (B v) (r.within v i p) (outside v i (c.odd_later v i ne q)))) in
     let none : odd (size g) (λ w. s w && odd_neighbourhood g y w) ≡ false =
-        odd-none (size g) (λ w. s w && odd_neighbourhood g y w)
-        (λ w i. and_by (s w) (odd_neighbourhood g y w) (λ p q.
-          clash (odd_neighbourhood g y w) q
-          (r.even w i (c.no_input w p) (outside w i (c.set_later w p))))) in
+    odd-none (size g) (λ w. s w && odd_neighbourhood g y w)
+    (λ w i. and_by (s w) (odd_neighbourhood g y w) (λ p q.
+    clash (odd_neighbourhood g y w) q
+    (r.even w i (c.no_input w p) (outside w i (c.set_later w p))))) in
     clash (odd (size g) (λ v. y v && odd_neighbourhood g s v)) one (counted_twice g s y ∙ none)
 
 -- no vertex of a refuter has a layer: by induction on a bound on it
@@ -102,7 +102,7 @@ odd_of_single g w v l = by (joins g.edges v w) refl
     by false e =
         odd-none (size g) term
         (λ j i. and_by (single w j) (joins g.edges v j) (λ p q.
-          clash (joins g.edges v w) (subst (λ (k : ℕ). joins g.edges v k ≡ true) (eqb-true j w p) q) e))
+        clash (joins g.edges v w) (subst (λ (k : ℕ). joins g.edges v k ≡ true) (eqb-true j w p) q) e))
         ∙ sym e
 
 stuck_at : (g : OpenGraph) (B : Bits) (layer : ℕ → ℕ) (w u : ℕ) → u < size g → B u ≡ true →

@@ -57,7 +57,6 @@ rooted_twice q a e =
     ∙ ap (λ t. plus (plus (rotations q (rotations q a)) (minus (minus a))) (minus t)) three
     ∙ four (rotations q (rotations q a)) a (length-rotations q (rotations q a) ∙ length-rotations q a)
 
-
 times_minus : (a b : List ℤ) → times a (minus b) ≡ minus (times a b)
 times_minus a b =
     ap (times a) (sym (rotations_half b))
@@ -71,12 +70,12 @@ times_rooted : (q k : ℕ) (a : List ℤ) → 4 * q ≡ suc k → length a ≡ s
 times_rooted q k a e f =
     let one : List ℤ = unit (suc k) in
     let same : length (rotations q one) ≡ length (minus (rotations (3 * q) one)) =
-        length-rotations q one ∙ sym (length-minus (rotations (3 * q) one) ∙ length-rotations (3 * q) one) in
+    length-rotations q one ∙ sym (length-minus (rotations (3 * q) one) ∙ length-rotations (3 * q) one) in
     times_plus a (rotations q one) (minus (rotations (3 * q) one)) same
     ∙ ap₂ plus
-      (times_rotations a one q ∙ ap (rotations q) (times_one a k f))
-      (times_minus a (rotations (3 * q) one)
-      ∙ ap minus (times_rotations a one (3 * q) ∙ ap (rotations (3 * q)) (times_one a k f)))
+    (times_rotations a one q ∙ ap (rotations q) (times_one a k f))
+    (times_minus a (rotations (3 * q) one)
+    ∙ ap minus (times_rotations a one (3 * q) ∙ ap (rotations (3 * q)) (times_one a k f)))
 
 root_coefficients : (q : ℕ) → (root_two q).coefficients ≡ rooted q (unit (4 * q))
 root_coefficients q =
@@ -87,7 +86,7 @@ squares_by : (q k : ℕ) → 4 * q ≡ suc k →
     times (rooted q (unit (4 * q))) (rooted q (unit (4 * q))) ≡ plus (unit (4 * q)) (unit (4 * q))
 squares_by q k e =
     let long : length (rooted q (unit (suc k))) ≡ suc k =
-        length-rooted q (unit (suc k)) ∙ length-unit (suc k) in
+    length-rooted q (unit (suc k)) ∙ length-unit (suc k) in
     ap (λ n. times (rooted q (unit n)) (rooted q (unit n))) e
     ∙ times_rooted q k (rooted q (unit (suc k))) e long
     ∙ ap (λ n. rooted q (rooted q (unit n))) (sym e)
