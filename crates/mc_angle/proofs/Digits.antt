@@ -18,7 +18,7 @@ number_of-push [] b = omega arith
 number_of-push (x ∷ bs) b =
     let size : length (bs ++ b ∷ []) ≡ length bs + 1 = length-append bs (b ∷ []) in
     rw (size, next_power (length bs), number_of-push bs b)
-      (first_digit (x - 48) (10 ^ length bs) (number_of bs) (b - 48))
+    (first_digit (x - 48) (10 ^ length bs) (number_of bs) (b - 48))
 
 -- with one more digit it stays below the next power of ten
 pub next_small : (n sum d : ℕ) → sum < 10 ^ n → d ≤ 9 → 10 * sum + d < 10 ^ (n + 1)

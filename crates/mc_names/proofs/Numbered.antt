@@ -51,16 +51,17 @@ names_differ m n lt fits true e =
 none_smaller : (m n : ℕ) → n < m → m < 2 ^ 64
     → AllByRecursion (λ y. name_eq (numbered m) y ≡ false) (names_to n)
 none_smaller m zero lt fits = tt
-none_smaller m (suc n) lt fits =
-    (names_differ m (suc n) lt fits (name_eq (numbered m) (numbered (suc n))) refl,
-     none_smaller m n (omega arith) fits)
+none_smaller m (suc n) lt fits = (
+  names_differ m (suc n) lt fits (name_eq (numbered m) (numbered (suc n))) refl,
+  none_smaller m n (omega arith) fits,
+)
 
 names_to-distinct : (n : ℕ) → n < 2 ^ 64 → IsDistinct name_eq (names_to n)
 unfolding IsDistinct
 names_to-distinct zero fits = tt
 names_to-distinct (suc n) fits =
     IsDistinct-cons name_eq (numbered (suc n)) (names_to n)
-      (none_smaller (suc n) n (omega arith) fits) (names_to-distinct n (omega arith))
+    (none_smaller (suc n) n (omega arith) fits) (names_to-distinct n (omega arith))
 
 one_more_held : (names : List Name) (n : ℕ) (q : Name) (b : Bool)
     → is_held names (numbered (suc n)) ≡ true
@@ -77,15 +78,15 @@ all_held : (names : List Name) (n : ℕ)
 all_held names zero held q e = absurd (cc e)
 all_held names (suc n) held q e =
     one_more_held names n q (name_eq q (numbered (suc n))) (held (suc n) (omega arith) (omega arith)) refl
-      (all_held names n (λ j p l. held j p (omega arith)) q) e
+    (all_held names n (λ j p l. held j p (omega arith)) q) e
 
 -- a list that holds n numbered names has n names
 pub held_few : (names : List Name) (n : ℕ) → n < 2 ^ 64
     → ((j : ℕ) → 0 < j → j ≤ n → is_held names (numbered j) ≡ true) → n ≤ length names
 held_few names n fits held =
     let le =
-      length-le_from_is_member nat_list_eq_equiv (names_to n) names (names_to-distinct n fits)
-        (all_held names n held) in
+    length-le_from_is_member nat_list_eq_equiv (names_to n) names (names_to-distinct n fits)
+    (all_held names n held) in
     let len = length-names_to n in
     omega arith
 
@@ -102,10 +103,10 @@ find_fresh : (names : List Name) (a n k : ℕ) → a ≤ k → k < a + n
 find_fresh names a zero k from to below here = absurd (omega arith)
 find_fresh names a (suc n) k from to below here =
     elim (eqb_tells a k) [
-      inl e ↦ rw (e.1, here) refl
-    | inr e ↦
-        let lt : a < k = (let ne = e.1 in omega arith) in
-        rw (below a (omega arith) lt)
+      | inl e ↦ rw (e.1, here) refl
+      | inr e ↦
+          let lt : a < k = (let ne = e.1 in omega arith) in
+          rw (below a (omega arith) lt)
           (find_fresh names (suc a) n k (omega arith) (omega arith) (λ j l m. below j (omega arith) m) here)
     ]
 
@@ -115,4 +116,4 @@ pub fresh_name-least : (names : List Name) (k : ℕ) → 0 < k → k ≤ length 
     → numbered k ≡ fresh_name names
 fresh_name-least names k positive most below here =
     rw (find_fresh names 1 (length names + 1) k (omega arith) (omega arith)
-          (λ j l m. below j (omega arith) m) here) refl
+    (λ j l m. below j (omega arith) m) here) refl

@@ -90,14 +90,10 @@ impl Names {
         ensures err { OnErr result (self.new ≡ self.old) }
 
         ensures twice { (q : ℕ) → (result ≡ Err (NamesEnd.Twice q)) ↔ (place_of self.old name ≡ Some q) }
-        ensures full {
-            (result ≡ Err NamesEnd.Full) ↔ ((place_of self.old name ≡ None) × (length self.old ≡ 256))
-        }
+        ensures full { (result ≡ Err NamesEnd.Full) ↔ ((place_of self.old name ≡ None) × (length self.old ≡ 256)) }
         // the cause of no refusal stands where the name is added, nor where memory ran out
         ensures room { OnOk result ((place_of self.old name ≡ None) × (length self.old < 256)) }
-        ensures memory_last {
-            result ≡ Err NamesEnd.Memory → (place_of self.old name ≡ None) × (length self.old < 256)
-        }
+        ensures memory_last { result ≡ Err NamesEnd.Memory → (place_of self.old name ≡ None) × (length self.old < 256) }
     {
         if let Some(number) = self.find(&name) {
             return Err(NamesEnd::Twice(number));
@@ -124,14 +120,10 @@ impl Names {
 
     /// Whether one or the other of two lists holds each of these names.
     pub fn is_subset_of_union(&self, first: &Names, second: &Names) -> bool
-        ensures {
-            result ≡ list_all (λ name. is_held first.now name || is_held second.now name) self.now
-        }
+        ensures { result ≡ list_all (λ name. is_held first.now name || is_held second.now name) self.now }
     {
-        self.set
-            .as_slice()
-            .iter()
-            .all(|name| first.find(name).is_some() || second.find(name).is_some())
+        self.set.as_slice().iter().all(|name| first.find(name).is_some()
+            || second.find(name).is_some())
     }
 
     /// The same names with the same numbers.

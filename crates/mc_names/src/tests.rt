@@ -18,6 +18,7 @@ fn numbers_names(rt: HostRuntime) -> Result<(), Fail> {
     assert_eq!(rt; names.add(name(&rt, "q1")), Ok(1));
     assert_eq!(rt; names.fresh().bytes(), b"q2".as_slice());
     assert!(rt; copy.is_subset(&names) && !names.is_subset(&copy));
+    assert!(rt; names.is_subset_of_union(&copy, &names) && !names.is_subset_of_union(&copy, &copy));
     Ok(())
 }
 

@@ -11,7 +11,10 @@ digits-preserved c =
     let digit = digit_at word i c.requires c.digits-test.true in
     record {
       value =
-        rw (take_more word i 0 c.digits-test.true, number_of-push (take i word) (slice_index_or word i 0),
-            ← c.digits.invariant.value) refl;
+          rw (
+            take_more word i 0 c.digits-test.true,
+            number_of-push (take i word) (slice_index_or word i 0),
+            ← c.digits.invariant.value,
+          ) refl;
       small = next_small i c.digits.sum (slice_index_or word i 0 - 48) c.digits.invariant.small digit;
     }

@@ -6,7 +6,7 @@ abbrev pub invariant-numbers : goal.invariant-numbers
 invariant-numbers l = record {
   positive : 0 < l.number;
   most : l.number ≤ length l.self + 1;
-  held : (j : ℕ) → 0 < j → j < l.number → is_held l.self (numbered j) ≡ true
+  held : (j : ℕ) → 0 < j → j < l.number → is_held l.self (numbered j) ≡ true;
 }
 
 abbrev pub decreases-numbers : goal.decreases-numbers
