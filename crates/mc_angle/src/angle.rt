@@ -2,6 +2,7 @@
 
 ghost use Rattle.std.specs.Prelude.{◌≡◌, ◌+◌, ◌-◌, ◌*◌, ◌%◌, ◌<◌, IsTrue, IfSome, is_some};
 ghost use Rattle.mc_model.specs.Steps.{is_permitted};
+ghost use Rattle.mc_model.specs.Phase.{negated};
 ghost use Rattle.mc_angle.specs.Angle.{steps_of, is_angle, angle_of};
 
 use crate::number::read_number;
@@ -74,8 +75,9 @@ impl<const H: usize> Angle<H> {
     }
 
     /// The angle that adds up with this one to a whole turn or none.
+    #[tactic(auto, unfolding(mc_model::specs::Phase::negated))]
     pub fn neg(&self) -> Angle<H>
-        ensures value { result ≡ (2 * H - self.now) % (2 * H) }
+        ensures value { result ≡ negated H self.now }
         ensures undoes { (self.now + result) % (2 * H) ≡ 0 }
     {
         let steps = self.steps;
