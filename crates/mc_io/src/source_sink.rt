@@ -1,6 +1,6 @@
 //! What sources and sinks mean.
 
-ghost use Rattle.std.specs.Prelude.{ℕ, ◌-◌, ◌^◌, ◌≤◌, List, Option, Result};
+ghost use Rattle.std.specs.Prelude.{ℕ, ◌-◌, ◌^◌, ◌≤◌, List, Option, Result, ⊤};
 ghost use Rattle.std.specs.Io.{ReadsAtMost};
 ghost use Rattle.std.specs.Io.KnownBytes.{ReadConsumes};
 ghost use Rattle.mc_io.specs.declared.end.Failed.{Failed};
@@ -16,8 +16,8 @@ pub trait Source {
 
     ghost faults: { Self → ℕ };
 
-    // What a read can do: the source before, the buffer as the read left it, the answer, the source after.
-    ghost reads: { Self → List ℕ → Result ℕ Failed → Self → Type 0 };
+    // What a read can do beyond that: the source before, the buffer as it left it, the answer, the source after.
+    ghost reads: { Self → List ℕ → Result ℕ Failed → Self → Type 0 } = { λ _ _ _ _. ⊤ };
 
     /// Puts the next bytes at the front of the buffer and gives their number, which is 0 into a buffer that is not empty only
     /// at the end of input. A read that failed took no byte.
@@ -38,8 +38,8 @@ pub trait Sink {
 
     ghost faults: { Self → ℕ };
 
-    // What a write can do: the sink before, the part, the answer, the sink after.
-    ghost writes: { Self → List ℕ → Result ℕ Failed → Self → Type 0 };
+    // What a write can do beyond that: the sink before, the part, the answer, the sink after.
+    ghost writes: { Self → List ℕ → Result ℕ Failed → Self → Type 0 } = { λ _ _ _ _. ⊤ };
 
     /// Appends the first bytes of the part and gives their number, which is at least 1 where the part is not empty. A write
     /// that failed appended nothing.

@@ -2,6 +2,7 @@
 
 ghost use Rattle.std.specs.Prelude.{◌≡◌, ℕ, ◌-◌, ◌^◌, min, None};
 ghost use Rattle.std.proofs.Common.{arith};
+ghost use Rattle.std.specs.Io.KnownBytes.{ReadConsumes, WriteAppends};
 ghost use Rattle.mc_io.specs.Faults.{faults_after};
 
 use crate::end::Failed;
@@ -10,7 +11,7 @@ use std::io::{Read, Write};
 use std::marker::Model;
 
 /// A source over a reader, which tells no bytes. An interrupted read counts as a fault, as every error does.
-/// A contract sees the count of faults, which stops at `u64::MAX`.
+/// A contract sees the reader and the count of faults, which stops at `u64::MAX`.
 #[derive(Drop)]
 pub struct StdSource<R> {
     reader: R,
@@ -18,15 +19,15 @@ pub struct StdSource<R> {
 }
 
 impl<R> Model for StdSource<R> {
-    ghost Value = { ℕ };
+    ghost Value = { R × ℕ };
 
-    ghost view = { λ s. s.faults };
+    ghost view = { λ s. (s.reader, s.faults) };
 }
 
 impl<R> StdSource<R> {
     /// A source over this reader, without faults so far.
     pub fn new(reader: R) -> StdSource<R>
-        ensures { result ≡ 0 }
+        ensures { result ≡ (reader, 0) }
     {
         StdSource { reader, faults: 0 }
     }
@@ -35,9 +36,11 @@ impl<R> StdSource<R> {
 impl<R: Read> Source for StdSource<R> {
     ghost left = { λ _. None };
 
-    ghost faults = { λ s. min s (2 ^ 64 - 1) };
+    ghost faults = { λ s. min s.1 (2 ^ 64 - 1) };
 
-    ghost reads = { λ old buf result new. new ≡ faults_after old result };
+    // What the reader itself gave, where it knows its bytes, and the count.
+    ghost reads = { λ old buf result new. ReadConsumes (R.remaining old.0) (R.remaining new.0) result buf
+        × (new.1 ≡ faults_after old.1 result) };
 
     ghost fits = { λ s. Prim.omega arith };
 
@@ -54,7 +57,7 @@ impl<R: Read> Source for StdSource<R> {
 }
 
 /// A sink over a writer, which tells no bytes. An interrupted write counts as a fault, as every error does and as a write that
-/// takes nothing of a part that is not empty. A contract sees the count of faults, which stops at `u64::MAX`.
+/// takes nothing of a part that is not empty. A contract sees the writer and the count of faults, which stops at `u64::MAX`.
 #[derive(Drop)]
 pub struct StdSink<W> {
     writer: W,
@@ -62,15 +65,15 @@ pub struct StdSink<W> {
 }
 
 impl<W> Model for StdSink<W> {
-    ghost Value = { ℕ };
+    ghost Value = { W × ℕ };
 
-    ghost view = { λ s. s.faults };
+    ghost view = { λ s. (s.writer, s.faults) };
 }
 
 impl<W> StdSink<W> {
     /// A sink over this writer, without faults so far.
     pub fn new(writer: W) -> StdSink<W>
-        ensures { result ≡ 0 }
+        ensures { result ≡ (writer, 0) }
     {
         StdSink { writer, faults: 0 }
     }
@@ -79,9 +82,11 @@ impl<W> StdSink<W> {
 impl<W: Write> Sink for StdSink<W> {
     ghost written = { λ _. None };
 
-    ghost faults = { λ s. min s (2 ^ 64 - 1) };
+    ghost faults = { λ s. min s.1 (2 ^ 64 - 1) };
 
-    ghost writes = { λ old part result new. new ≡ faults_after old result };
+    // What the writer itself took, where it knows its bytes, and the count.
+    ghost writes = { λ old part result new. WriteAppends (W.contents old.0) (W.contents new.0) result part
+        × (new.1 ≡ faults_after old.1 result) };
 
     ghost fits = { λ s. Prim.omega arith };
 
