@@ -1,10 +1,10 @@
 -- Worked circuits and patterns, computed.
-use Rattle.std.proofs.Common.{◌≡◌, ℕ, Bool, true, false, List, [], ◌∷◌, refl, codes, arith}
+use Rattle.std.proofs.Common.{◌≡◌, Bool, true, false, List, [], ◌∷◌, refl, codes, arith}
 use Rattle.std.specs.Prelude.{ℤ, pos, negsuc}
 use Rattle.std.specs.Fmt.{digits}
 use Rattle.mc_model.specs.Names.{Name}
 use Rattle.mc_model.specs.Numbers.{pairs_at, pairs_below}
-use Rattle.mc_model.specs.Bits.{◌⊻◌, Bits, parity}
+use Rattle.mc_model.specs.Bits.{◌⊻◌, parity}
 use Rattle.mc_model.specs.Signals.{Signal, value, signal_of, no_signal, toggled, toggled_all}
 use Rattle.mc_model.specs.Phase.{turn, negated}
 use Rattle.mc_model.specs.Ring.{ring}

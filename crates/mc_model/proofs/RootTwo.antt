@@ -3,9 +3,8 @@ use Rattle.std.specs.Prelude.{◌≡◌, ℕ, zero, suc, ◌+◌, ◌*◌, ◌<�
 use Rattle.std.proofs.Common.{arith, sym, ap, ap₂, ◌∙◌}
 use Rattle.std.proofs.lemmas.Int.{ints}
 use lib.IntN.{neg_ℤ}
-use Rattle.mc_model.specs.Phase.{turn}
 use Rattle.mc_model.specs.Ring.{Element, ring, product, root_two, plus, minus, times, unit, rotated, rotations, length-plus, length-minus, length-unit, length-times}
-use Rattle.mc_model.proofs.RingLemmas.{same_element, turn_coefficients, rotated_plus, rotations_add, rotations_half, rotations_product, length-rotations, times_plus, times_rotations, times_one}
+use Rattle.mc_model.proofs.RingLemmas.{same_element, turn_coefficients, rotated_plus, rotations_add, rotations_half, length-rotations, times_plus, times_rotations, times_one}
 
 -- the root of 2 times an element
 abbrev pub rooted : ℕ → List ℤ → List ℤ

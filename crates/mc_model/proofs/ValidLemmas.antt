@@ -4,7 +4,7 @@ use Rattle.std.specs.Prelude.{nat_eq}
 use mathlib.Core.Path.{fun_ext, subst, subst₂}
 use mathlib.Core.Logic.{inl, inr}
 use Rattle.std.proofs.lemmas.Bool.{eq-eqb, ne_eqb, cases_eq, true≢false}
-use Rattle.mc_model.specs.Bits.{Bits, replaced}
+use Rattle.mc_model.specs.Bits.{replaced}
 use Rattle.mc_model.specs.Signals.{Signal}
 use Rattle.mc_model.specs.Pattern.{Command, Prep, Ent, Meas, FixX, FixZ}
 use Rattle.mc_model.specs.Valid.{measured, prepared, FitsBehind, IsLive, IsValid}

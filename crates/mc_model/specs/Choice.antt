@@ -1,5 +1,5 @@
 -- The flow, the causal flow, the refuter and the stuck set that are chosen among all.
-use Rattle.std.specs.Prelude.{◌≡◌, ◌≢◌, ◌⊎◌, ℕ, ◌<◌, ◌≤◌, true, false, eqb}
+use Rattle.std.specs.Prelude.{◌≡◌, ◌≢◌, ◌⊎◌, ℕ, ◌<◌, ◌≤◌, true, false}
 use Rattle.mc_model.specs.Bits.{Bits}
 use Rattle.mc_model.specs.Graph.{OpenGraph, size, is_input, is_output, odd_neighbourhood, joins}
 use Rattle.mc_model.specs.Flow.{IsFlow, IsCausalFlow, single, IsRefuter, RefutesAt, IsStuckSet}

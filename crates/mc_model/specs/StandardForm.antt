@@ -1,7 +1,7 @@
 -- The standard form of a pattern, by closed sums over the places of its list.
-use Rattle.std.specs.Prelude.{ℕ, zero, suc, ◌+◌, Bool, true, false, cond, nat_eq, List, [], ◌∷◌, ◌++◌}
+use Rattle.std.specs.Prelude.{ℕ, zero, suc, ◌+◌, Bool, false, cond, nat_eq, List, [], ◌∷◌, ◌++◌}
 use Rattle.mc_model.specs.Numbers.{pairs_below}
-use Rattle.mc_model.specs.Bits.{◌⊻◌, Bits, same_pair}
+use Rattle.mc_model.specs.Bits.{◌⊻◌, same_pair}
 use Rattle.mc_model.specs.Signals.{Signal, no_signal, signal_sum, is_empty, Signals}
 use Rattle.mc_model.specs.Pattern.{Command, Prep, Ent, Meas, FixX, FixZ, Pattern}
 use Rattle.mc_model.specs.Valid.{prepared, measured}
