@@ -1,0 +1,4 @@
+pub mod OddSums
+pub mod GraphStates
+pub mod MeasuringOrder
+pub mod Determinism
