@@ -1,2 +1,4 @@
 pub mod Changed
 pub mod Shifting
+pub mod NewOutcomes
+pub mod ShiftedForm

@@ -13,3 +13,23 @@ ShiftKeepsMaps = (half : ℕ) → 0 < half → (p q : Pattern) → IsValidPatter
     (o : Bits) (y : List Bool) (b : Bits) →
     branch_map (ring half) p o y b
     ≡ branch_map (ring half) q (new_outcomes (change_of p.commands) o) y b
+
+-- each is reached, and from one alone
+pub record IsBijection (change : Bits → Bits) : Type 0 where
+  pub reached : (n : Bits) → (o : Bits) × ((k : ℕ) → change o k ≡ n k)
+  pub one_to_one : (o o' : Bits) → ((k : ℕ) → change o k ≡ change o' k) → (k : ℕ) → o k ≡ o' k
+
+-- the change of a valid pattern takes each list of outcomes to another, and reaches every list
+abbrev pub NewOutcomesAreABijection : Type 0
+NewOutcomesAreABijection = (p : Pattern) → IsValidPattern p →
+    IsBijection (new_outcomes (change_of p.commands))
+
+-- one pattern has the property, and no other has it
+pub record HasOne (P : Pattern → Type 0) : Type 0 where
+  pub the_one : Pattern
+  pub has : P the_one
+  pub only : (q : Pattern) → P q → q ≡ the_one
+
+-- a valid pattern has one shifted form
+abbrev pub HasOneShiftedForm : Type 0
+HasOneShiftedForm = (p : Pattern) → IsValidPattern p → HasOne (IsShiftedForm p)

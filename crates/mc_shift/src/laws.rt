@@ -1,8 +1,18 @@
 //! What is proved of shifted forms.
 
-ghost use Rattle.mc_shift.specs.Laws.{ShiftKeepsMaps};
+ghost use Rattle.mc_shift.specs.Laws.{HasOneShiftedForm, NewOutcomesAreABijection, ShiftKeepsMaps};
 
 /// At the changed outcomes the shifted form of a valid pattern has the branch map of the pattern.
 pub fn shift_keeps_maps()
     ensures { ShiftKeepsMaps }
+{}
+
+/// A valid pattern has one shifted form.
+pub fn has_one_shifted_form()
+    ensures { HasOneShiftedForm }
+{}
+
+/// The change of outcomes of a valid pattern reaches all outcomes, each from one.
+pub fn new_outcomes_are_a_bijection()
+    ensures { NewOutcomesAreABijection }
 {}
