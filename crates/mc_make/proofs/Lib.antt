@@ -1,4 +1,6 @@
 pub mod OddSums
 pub mod GraphStates
 pub mod MeasuringOrder
+pub mod Corrected
 pub mod Determinism
+pub mod ZeroBranch

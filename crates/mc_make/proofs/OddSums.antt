@@ -81,6 +81,23 @@ numbers_where-last p n =
     ap (filter p) (numbers_from-last 0 n ∙ ap (λ (k : ℕ). numbers_from 0 n ++ (k ∷ [])) e)
     ∙ filter-append p (numbers_from 0 n) (n ∷ [])
 
+pub numbers_where-same : (p q : Bits) (n : ℕ) → ((k : ℕ) → k < n → p k ≡ q k) →
+    numbers_where p n ≡ numbers_where q n
+numbers_where-same p q zero h = refl
+numbers_where-same p q (suc n) h =
+    numbers_where-last p n
+    ∙ ap₂ (λ (ks : List ℕ) (b : Bool). ks ++ cond b (n ∷ []) [])
+    (numbers_where-same p q n (λ k l. h k (omega arith))) (h n (omega arith))
+    ∙ sym (numbers_where-last q n)
+
+pub numbers_where-none : (p : Bits) (n : ℕ) → ((k : ℕ) → k < n → p k ≡ false) →
+    numbers_where p n ≡ []
+numbers_where-none p zero h = refl
+numbers_where-none p (suc n) h =
+    numbers_where-last p n
+    ∙ ap₂ (λ (ks : List ℕ) (b : Bool). ks ++ cond b (n ∷ []) [])
+    (numbers_where-none p n (λ k l. h k (omega arith))) (h n (omega arith))
+
 pub parity-append : (qs rs : List ℕ) (x : Bits) → parity (qs ++ rs) x ≡ parity qs x ⊻ parity rs x
 unfolding parity
 parity-append [] rs x = refl

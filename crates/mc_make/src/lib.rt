@@ -3,4 +3,4 @@
 
 mod laws;
 
-pub use laws::flow_patterns_are_deterministic;
+pub use laws::{flow_patterns_are_deterministic, zero_branch_of_flow_pattern};
