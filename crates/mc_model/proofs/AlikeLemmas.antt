@@ -1,13 +1,13 @@
 -- Commands that do alike may be put for one another anywhere in a list.
-use Rattle.std.proofs.Common.{◌≡◌, ℕ, ◌+◌, true, false, ◌&&◌, ◌++◌, List, [], ◌∷◌, refl, sym, ◌∙◌, ap}
+use Rattle.std.proofs.Common.{◌≡◌, ℕ, ◌+◌, ◌*◌, ◌%◌, true, false, ◌&&◌, ◌++◌, List, [], ◌∷◌, refl, sym, ◌∙◌, ap, arith}
 use mathlib.Core.Path.{fun_ext}
 use Rattle.mc_model.specs.Phase.{PhaseOps, PhaseLaws, turn, negated}
 use Rattle.mc_model.specs.Bits.{Bits, replaced}
 use Rattle.mc_model.specs.Signals.{value}
 use Rattle.mc_model.specs.Pattern.{Command, Prep, Ent, Meas, FixX, FixZ}
-use Rattle.mc_model.specs.Amplitude.{Amps, act, after}
-use Rattle.mc_model.specs.Alike.{AlikeCommands}
-use Rattle.mc_model.proofs.PhaseLemmas.{turn-add, turn_comm, turn-sum, turn-negated, sign-turn}
+use Rattle.mc_model.specs.Amplitude.{Amps, act, after, start, placed, amp, branch_map}
+use Rattle.mc_model.specs.Alike.{AlikeCommands, AlikeBranches}
+use Rattle.mc_model.proofs.PhaseLemmas.{turn-add, turn_comm, turn-sum, turn-negated, sign-turn, turn-modulo}
 use Rattle.mc_model.proofs.AmplitudeLemmas.{after-append}
 
 module _ {E : Type 0} (ops : PhaseOps E) (laws : PhaseLaws ops) where
@@ -56,3 +56,19 @@ module _ {E : Type 0} (ops : PhaseOps E) (laws : PhaseLaws ops) where
         ∙ after-turn o behind h.phase (after ops o ds g) x
         ∙ ap (λ (p : Amps E). turn ops h.phase (p x)) (sym (after-append ops laws o before (ds ++ behind) f ∙ after-append ops laws o ds behind g));
   }
+
+  -- one phase for all entries of a branch map
+  pub alike_branches : (names ms : List (List ℕ)) (inputs : ℕ) (outputs : List ℕ) (o : Bits)
+      (cs ds : List Command) → AlikeCommands ops o cs ds →
+      AlikeBranches ops
+      (record { names = names; inputs = inputs; outputs = outputs; commands = cs }) o
+      (record { names = ms; inputs = inputs; outputs = outputs; commands = ds }) o
+  unfolding branch_map amp
+  alike_branches names ms inputs outputs o cs ds h =
+      let p = laws.half_positive in
+      record {
+        phase = h.phase % (2 * ops.half);
+        within = omega arith;
+        same = λ y b.
+            h.same (start ops inputs b) (placed outputs y) ∙ sym (turn-modulo ops laws h.phase _);
+      }

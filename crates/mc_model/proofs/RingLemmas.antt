@@ -232,7 +232,7 @@ pub rotations_add : (j k : ℕ) (a : List ℤ) → rotations (j + k) a ≡ rotat
 rotations_add zero k a = let e : 0 + k ≡ k = omega arith in ap (λ n. rotations n a) e
 rotations_add (suc j) k a = ap (λ n. rotations n a) (let e : suc j + k ≡ suc (j + k) = omega arith in e) ∙ ap rotated (rotations_add j k a)
 
-times_rotations : (a b : List ℤ) (k : ℕ) → times a (rotations k b) ≡ rotations k (times a b)
+pub times_rotations : (a b : List ℤ) (k : ℕ) → times a (rotations k b) ≡ rotations k (times a b)
 times_rotations a b zero = refl
 times_rotations a b (suc k) = times_rotated a (rotations k b) ∙ ap rotated (times_rotations a b k)
 

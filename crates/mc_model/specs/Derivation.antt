@@ -4,7 +4,6 @@ use Rattle.mc_model.specs.Signals.{Signal, no_signal, signal_sum}
 use Rattle.mc_model.specs.Pattern.{Command, Prep, Ent, Meas, FixX, FixZ}
 use Rattle.mc_model.specs.Alike.{Disjoint}
 use Rattle.mc_model.specs.Valid.{IsValid}
-use Rattle.mc_model.specs.StandardForm.{standard_commands}
 
 pub data Rule : Type 0 where
   XE : Rule
@@ -163,26 +162,14 @@ IsLower a b =
     ⊎ ((a.ahead ≡ b.ahead) × ((a.size < b.size)
     ⊎ ((a.size ≡ b.size) × ((a.wrong < b.wrong) ⊎ ((a.wrong ≡ b.wrong) × (a.turned < b.turned))))))))
 
--- the rank falls in one of its first two numbers, or the parts of both lists are in order and a later number falls
-abbrev pub Descends : Rank → Rank → Type 0
-Descends a b =
-    ((a.late < b.late) ⊎ ((a.late ≡ b.late) × (a.ahead < b.ahead)))
-    ⊎ ((a.late ≡ 0) × (b.late ≡ 0) × ((a.size < b.size)
-    ⊎ ((a.size ≡ b.size) × ((a.wrong < b.wrong) ⊎ ((a.wrong ≡ b.wrong) × (a.turned < b.turned))))))
-
--- a use of a rule in a valid list leaves a valid list of lower rank with the same standard form
-pub record Improves (inputs : ℕ) (cs : List Command) : Type 0 where
-  pub rule : Rule
+-- a use of a rule: the place of the first command concerned, counted from 1
+pub record Use : Type 0 where
   pub place : ℕ
-  pub next : List Command
-  pub step : Step inputs rule place cs next
-  pub lower : IsLower (rank next) (rank cs)
-  pub descends : Descends (rank next) (rank cs)
-  pub grows : length next ≤ length cs + 1
-  pub same : standard_commands inputs cs ≡ standard_commands inputs next
+  pub rule : Rule
 
--- the standard form of a valid list
-pub record IsReached (inputs : ℕ) (cs : List Command) : Type 0 where
-  pub valid : IsValid inputs (standard_commands inputs cs)
-  pub own : standard_commands inputs (standard_commands inputs cs) ≡ standard_commands inputs cs
-  pub not_above : IsLower (rank (standard_commands inputs cs)) (rank cs) ⊎ (standard_commands inputs cs ≡ cs)
+-- uses that lead from one list to another, each from a valid list to a valid list
+pub data Derives (inputs : ℕ) : List Use → List Command → List Command → Type 0 where
+  no_use : {cs : List Command} → Derives inputs [] cs cs
+  one_use : {u : Use} {uses : List Use} {cs ds es : List Command} →
+      Step inputs u.rule u.place cs ds → Derives inputs uses ds es →
+      Derives inputs (u ∷ uses) cs es

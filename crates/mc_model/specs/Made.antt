@@ -22,7 +22,7 @@ corrected_measurement g s i =
     bare_measurement g i
     ∷ (map (λ k. FixX k (signal_of i)) (numbers_where s (size g))
     ++ map (λ k. FixZ k (signal_of i))
-       (numbers_where (λ k. odd_neighbourhood g s k && not (nat_eq k i)) (size g)))
+    (numbers_where (λ k. odd_neighbourhood g s k && not (nat_eq k i)) (size g)))
 
 unfoldable pub flow_pattern : OpenGraph → (ℕ → Bits) → (ℕ → ℕ) → Pattern
 flow_pattern g sets layer = record {
@@ -32,7 +32,7 @@ flow_pattern g sets layer = record {
   commands =
       graph_state g
       ++ flat_map (λ i. corrected_measurement g (sets i) i)
-         (measuring_order g layer (depth_of g layer));
+      (measuring_order g layer (depth_of g layer));
 }
 
 -- ---- extraction: a wire is a chain of vertices, each the next of the one before it
@@ -77,7 +77,7 @@ extracted_gates g next half done [] = []
 extracted_gates g next half done (i ∷ is) =
     J (wire_of g next i) (negated half (unwrap_or (base_angle g i) 0))
     ∷ (map (cz_gate g next (next i))
-       (numbers_where (λ k. joins g.edges (next i) k && is_current g next (i ∷ done) k) (size g))
+    (numbers_where (λ k. joins g.edges (next i) k && is_current g next (i ∷ done) k) (size g))
     ++ extracted_gates g next half (i ∷ done) is)
 
 -- the edges between first vertices, then those gates

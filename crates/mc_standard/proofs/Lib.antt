@@ -1,5 +1,6 @@
 pub mod Carried
 pub mod Derives
+pub mod KeptPatterns
 pub mod ExchangeLaws
 pub mod Frames
 pub mod InPlaceLemmas
@@ -17,6 +18,5 @@ pub mod SettledEdges
 pub mod SettledForm
 pub mod Settles
 pub mod StandardAlike
-pub mod StandardRows
 pub mod UsesLeft
 pub mod WrongPairs

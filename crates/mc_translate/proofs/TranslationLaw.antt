@@ -3,11 +3,26 @@ use Rattle.std.proofs.Common.{◌≡◌, ℕ, zero, suc, ◌+◌, ◌<◌, Bool,
 use Rattle.std.proofs.lemmas.Bool.{eq-eqb, ne_eqb, cases_eq}
 use mathlib.Core.Logic.{inl, inr}
 use Rattle.mc_model.specs.Phase.{PhaseOps, PhaseLaws, turn, sign, negated, measured_angle}
-use Rattle.mc_model.specs.Bits.{◌⊻◌, Bits, replaced, parity, value, no_signal, signal_of}
-use Rattle.mc_model.specs.Pattern.{Command, Prep, Ent, Meas, FixX, Gate, J, CZ, Amps, act, after, act_gate, after_gates, moved, translated, last_qubits, start, agrees, preparations, placed, amp, branch_map, circuit_table, translation}
-use Rattle.mc_model.specs.Translation.{GatesFit, StandApart, SameThrough, AllBelow, TranslationKeepsTable}
+use Rattle.mc_model.specs.Bits.{◌⊻◌, Bits, replaced, parity}
+use Rattle.mc_model.specs.Signals.{value, no_signal, signal_of}
+use Rattle.mc_model.specs.Pattern.{Command, Prep, Ent, Meas, FixX, Gate, J, CZ, Circuit, wires}
+use Rattle.mc_model.specs.Amplitude.{Amps, act, after, act_gate, after_gates, start, agrees, placed, amp, branch_map, circuit_table}
+use Rattle.mc_model.specs.Translation.{moved, translated, last_qubits, preparations, translation}
+use Rattle.mc_model.specs.Valid.{GatesFit, IsValidCircuit}
+use Rattle.mc_model.proofs.AmplitudeLemmas.{after-append, after-preparations}
+use Rattle.std.specs.List.{AllByRecursion}
+use Rattle.std.proofs.lemmas.List.Elements.{recursion_from_All}
 use Rattle.mc_model.proofs.PhaseLemmas.{turn_back_twice, sign-twice, sign-turn}
 use Rattle.mc_model.proofs.BitLemmas.{replaced_same, replaced_other, xor_false, xor_again}
+
+-- the qubits that stand for the wires differ, and are below the next fresh number
+pub record StandApart (wires : ℕ) (at : ℕ → ℕ) (next : ℕ) : Type 0 where
+  pub below : (v : ℕ) → v < wires → at v < next
+  pub apart : (v u : ℕ) → v < wires → u < wires → at v ≡ at u → v ≡ u
+
+-- the amplitudes `f` of qubits are those `g` of wires, where qubit `at v` stands for wire `v`
+pub record SameThrough {E : Type 0} (wires : ℕ) (at : ℕ → ℕ) (f g : Amps E) : Type 0 where
+  pub same : (x y : Bits) → ((v : ℕ) → v < wires → x (at v) ≡ y v) → f x ≡ g y
 
 moved_same : (at : ℕ → ℕ) (v r : ℕ) → moved at v r v ≡ r
 moved_same at v r = ap (λ (t : Bool). cond t r (at v)) (eq-eqb v v refl)
@@ -52,9 +67,9 @@ last_apart : (wires : ℕ) (gs : List Gate) (at : ℕ → ℕ) (next : ℕ) → 
 unfolding last_qubits
 last_apart wires [] at next fit st = (next, st)
 last_apart wires (J v a ∷ gs) at next fit st = last_apart wires gs (moved at v next) (suc next) fit.1 (moved_apart wires at next v st fit.0)
-last_apart wires (CZ v u ∷ gs) at next fit st = last_apart wires gs at next fit.2 st
+last_apart wires (CZ v u ∷ gs) at next fit st = last_apart wires gs at next fit.3 st
 
-placed_through : (wires : ℕ) (at : ℕ → ℕ) {n : ℕ} → StandApart wires at n → (qs : List ℕ) (ys : List Bool) → AllBelow wires qs →
+placed_through : (wires : ℕ) (at : ℕ → ℕ) {n : ℕ} → StandApart wires at n → (qs : List ℕ) (ys : List Bool) → AllByRecursion (λ (q : ℕ). q < wires) qs →
     (v : ℕ) → v < wires → placed (map at qs) ys (at v) ≡ placed qs ys v
 unfolding placed
 placed_through wires at st [] ys fit v h = refl
@@ -134,22 +149,23 @@ module _ {E : Type 0} (ops : PhaseOps E) (laws : PhaseLaws ops) where
       translated_keeps o wires gs (moved at v next) (suc next) _ _ fit.1 (moved_apart wires at next v st fit.0)
       (j_keeps o wires next at v a f g fit.0 st s)
   translated_keeps o wires (CZ v u ∷ gs) at next f g fit st s =
-      translated_keeps o wires gs at next _ _ fit.2 st (cz_keeps o wires at v u f g fit.0 fit.1 s)
+      translated_keeps o wires gs at next _ _ fit.3 st (cz_keeps o wires at v u f g fit.0 fit.1 s)
 
   start_same : (b x y : Bits) (n : ℕ) → ((v : ℕ) → v < n → x v ≡ y v) → start ops n b x ≡ start ops n b y
   unfolding start
   start_same b x y n agree = ap (λ (t : Bool). cond t ops.one ops.nought) (agrees_same b x y n agree)
 
-  pub translation_keeps_table : TranslationKeepsTable ops
+  pub translation_keeps_table : (c : Circuit) → IsValidCircuit c → (o : Bits) (y : List Bool) (b : Bits) →
+      branch_map ops (translation ops.half c) o y b ≡ circuit_table ops c y b
   unfolding branch_map circuit_table amp translation
   translation_keeps_table c fits o y b =
-      let prepared : Amps E = after ops o (preparations c.inputs (c.wires - c.inputs)) (start ops c.inputs b) in
-      let begun : SameThrough c.wires (λ v. v) prepared (start ops c.inputs b) = record {
+      let prepared : Amps E = after ops o (preparations c.inputs ((wires c) - c.inputs)) (start ops c.inputs b) in
+      let begun : SameThrough (wires c) (λ v. v) prepared (start ops c.inputs b) = record {
         same = λ x z agree.
-            ap (λ (f : Amps E). f x) (after-preparations o c.inputs (c.wires - c.inputs) (start ops c.inputs b))
-            ∙ start_same b x z c.inputs (λ v h. agree v (let k = fits.inputs_fit in omega arith));
+            ap (λ (f : Amps E). f x) (after-preparations ops laws o c.inputs ((wires c) - c.inputs) (start ops c.inputs b))
+            ∙ start_same b x z c.inputs (λ v h. agree v (let k = fits.inputs in omega arith));
       } in
-      let ended = translated_keeps o c.wires c.gates (λ v. v) c.wires prepared (start ops c.inputs b) fits.gates_fit (numbers_apart c.wires) begun in
-      ap (λ (f : Amps E). f (placed (map (last_qubits c.gates (λ v. v) c.wires) c.outputs) y))
-      (after-append o (preparations c.inputs (c.wires - c.inputs)) (translated ops.half c.gates (λ v. v) c.wires) (start ops c.inputs b))
-      ∙ ended.same _ _ (placed_through c.wires _ (last_apart c.wires c.gates (λ v. v) c.wires fits.gates_fit (numbers_apart c.wires)).1 c.outputs y fits.outputs_fit)
+      let ended = translated_keeps o (wires c) c.gates (λ v. v) (wires c) prepared (start ops c.inputs b) fits.gates (numbers_apart (wires c)) begun in
+      ap (λ (f : Amps E). f (placed (map (last_qubits c.gates (λ v. v) (wires c)) c.outputs) y))
+      (after-append ops laws o (preparations c.inputs ((wires c) - c.inputs)) (translated ops.half c.gates (λ v. v) (wires c)) (start ops c.inputs b))
+      ∙ ended.same _ _ (placed_through (wires c) _ (last_apart (wires c) c.gates (λ v. v) (wires c) fits.gates (numbers_apart (wires c))).1 c.outputs y (recursion_from_All (λ (q : ℕ). q < wires c) c.outputs fits.outputs.below))
