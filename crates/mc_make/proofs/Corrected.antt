@@ -19,7 +19,7 @@ use Rattle.mc_model.proofs.PhaseLemmas.{sign-twice, sign-sum, sign-turn}
 use Rattle.mc_model.proofs.BitLemmas.{replaced_itself, xor_false, xor_twice}
 use Rattle.mc_model.proofs.AmplitudeLemmas.{after-append, after-preparations}
 use Rattle.mc_model.proofs.AlikeLemmas.{after-turn}
-use Rattle.mc_make.proofs.OddSums.{odd-replaced}
+use Rattle.mc_make.proofs.SetSums.{odd-replaced}
 use Rattle.mc_make.proofs.GraphStates.{flipped, Within, set_sum, inside, after-x_set, after-z_set, graph_state-flipped}
 use Rattle.mc_make.proofs.MeasuringOrder.{IsToMeasure, IsLater, IsOrder, measured_in_order}
 
@@ -46,9 +46,6 @@ set_sum-without n i p x l e =
     ap (set_sum n p) (sym (replaced_itself x i)) ∙ set_sum-replaced n i p x (x i) l
     ∙ ap (λ (b : Bool). set_sum n (without i p) x ⊻ (b && x i)) e
     ∙ xor_false (set_sum n (without i p) x)
-
-and_false : (b : Bool) → (b && false) ≡ false
-and_false b = grind arith
 
 own_value : (o : Bits) (i : ℕ) → value (signal_of i) o ≡ o i
 unfolding value parity

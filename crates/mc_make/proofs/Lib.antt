@@ -1,4 +1,4 @@
-pub mod OddSums
+pub mod SetSums
 pub mod GraphStates
 pub mod MeasuringOrder
 pub mod Corrected

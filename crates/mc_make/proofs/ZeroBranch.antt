@@ -17,14 +17,12 @@ use Rattle.mc_model.specs.Made.{measuring_order, corrected_measurement, flow_pat
 use Rattle.mc_model.proofs.PhaseLemmas.{turn-sum, turn_comm}
 use Rattle.mc_model.proofs.BitLemmas.{replaced_swap, xor_false}
 use Rattle.mc_model.proofs.AmplitudeLemmas.{after-append}
-use Rattle.mc_make.proofs.OddSums.{numbers_where-last, numbers_where-none, numbers_where-same}
+use Rattle.mc_model.proofs.OddSums.{and_false}
+use Rattle.mc_make.proofs.SetSums.{numbers_where-last, numbers_where-none, numbers_where-same}
 use Rattle.mc_make.proofs.GraphStates.{flipped, set_sum}
 use Rattle.mc_make.proofs.MeasuringOrder.{IsOrder, IsWhere, where_all, all-weaker, measured_in_order, is_upto, upto_step, upto_apart, upto_none, upto_all}
 use Rattle.mc_make.proofs.Corrected.{fixed, bare, weighed, bare_is, corrected_is}
 use Rattle.mc_make.proofs.Determinism.{corrected, graph_state-first}
-
-and_false : (b : Bool) → (b && false) ≡ false
-and_false b = grind arith
 
 module _ {E : Type 0} (ops : PhaseOps E) (laws : PhaseLaws ops) where
   -- the corrections of outcome 0 do nothing

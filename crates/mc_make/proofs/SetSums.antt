@@ -1,4 +1,4 @@
--- Sums of bits over the numbers below a bound.
+-- The sum over a set of numbers: the term of one of them, and the list of those below a bound.
 use Rattle.std.proofs.Common.{◌≡◌, ℕ, zero, suc, ◌+◌, ◌<◌, ◌≤◌, Bool, true, false, cond, ◌&&◌, not, List, [], ◌∷◌, ◌++◌, refl, sym, ◌∙◌, ap, ap₂, append_assoc, arith}
 use Rattle.std.specs.Prelude.{nat_eq, filter}
 use Rattle.std.proofs.lemmas.Bool.{eq-eqb, ne_eqb, cases_eq, cases_Bool}
@@ -6,28 +6,8 @@ use Rattle.std.proofs.lemmas.List.Elements.{filter-append}
 use mathlib.Core.Logic.{inl, inr}
 use Rattle.mc_model.specs.Bits.{◌⊻◌, Bits, replaced, parity, odd}
 use Rattle.mc_model.specs.Numbers.{numbers_from, numbers_where}
-use Rattle.mc_model.proofs.BitLemmas.{xor_false, xor_assoc, xor_comm, xor_middle}
-
-pub odd-same : (n : ℕ) (f h : Bits) → ((k : ℕ) → k < n → f k ≡ h k) → odd n f ≡ odd n h
-unfolding parity
-odd-same zero f h e = refl
-odd-same (suc n) f h e =
-    ap₂ (λ (a b : Bool). a ⊻ b) (e n (omega arith)) (odd-same n f h (λ k l. e k (omega arith)))
-
-pub odd-none : (n : ℕ) (f : Bits) → ((k : ℕ) → k < n → f k ≡ false) → odd n f ≡ false
-unfolding parity
-odd-none zero f e = refl
-odd-none (suc n) f e =
-    ap₂ (λ (a b : Bool). a ⊻ b) (e n (omega arith)) (odd-none n f (λ k l. e k (omega arith)))
-
-pub odd-xor : (n : ℕ) (f h : Bits) → odd n (λ k. f k ⊻ h k) ≡ odd n f ⊻ odd n h
-unfolding parity
-odd-xor zero f h = refl
-odd-xor (suc n) f h =
-    ap (λ (b : Bool). (f n ⊻ h n) ⊻ b) (odd-xor n f h) ∙ xor_middle (f n) (h n) (odd n f) (odd n h)
-
-and_false : (b : Bool) → (b && false) ≡ false
-and_false b = grind arith
+use Rattle.mc_model.proofs.BitLemmas.{xor_false, xor_assoc, xor_comm}
+use Rattle.mc_model.proofs.OddSums.{and_false, odd-same, odd-none, odd-xor}
 
 and_true : (b : Bool) → (b && true) ≡ b
 and_true b = grind arith
