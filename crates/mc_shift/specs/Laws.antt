@@ -1,9 +1,10 @@
 -- The laws of signal shifting, over the elements with `half` coefficients.
-use Rattle.std.specs.Prelude.{◌≡◌, ℕ, ◌<◌, Bool, List}
+use Rattle.std.specs.Prelude.{◌≡◌, ℕ, ◌<◌, Bool, List, ◌∷◌, ◌++◌}
 use Rattle.mc_model.specs.Bits.{Bits}
 use Rattle.mc_model.specs.Ring.{ring}
-use Rattle.mc_model.specs.Pattern.{Pattern}
-use Rattle.mc_model.specs.Amplitude.{branch_map}
+use Rattle.mc_model.specs.Signals.{Signal, no_signal}
+use Rattle.mc_model.specs.Pattern.{Command, Meas, Pattern}
+use Rattle.mc_model.specs.Amplitude.{branch_map, pattern_scale}
 use Rattle.mc_model.specs.Valid.{IsValidPattern}
 use Rattle.mc_model.specs.Shift.{new_outcomes, change_of, IsShiftedForm}
 
@@ -33,3 +34,19 @@ pub record HasOne (P : Pattern → Type 0) : Type 0 where
 -- a valid pattern has one shifted form
 abbrev pub HasOneShiftedForm : Type 0
 HasOneShiftedForm = (p : Pattern) → IsValidPattern p → HasOne (IsShiftedForm p)
+
+-- no measurement of the list has a second signal
+abbrev pub HasNoSecondSignals : List Command → Type 0
+HasNoSecondSignals cs = (before : List Command) (q a : ℕ) (s t : Signal) (behind : List Command) →
+    cs ≡ before ++ (Meas q a s t ∷ behind) → t ≡ no_signal
+
+-- a valid pattern without second signals, of the same scale
+pub record IsValidShiftedForm (p q : Pattern) : Type 0 where
+  pub valid : IsValidPattern q
+  pub no_second : HasNoSecondSignals q.commands
+  pub scale : pattern_scale q ≡ pattern_scale p
+
+-- the shifted form of a valid pattern is one
+abbrev pub ShiftedFormsAreValid : Type 0
+ShiftedFormsAreValid = (p q : Pattern) → IsValidPattern p → IsShiftedForm p q →
+    IsValidShiftedForm p q

@@ -3,4 +3,6 @@
 
 mod laws;
 
-pub use laws::{has_one_shifted_form, new_outcomes_are_a_bijection, shift_keeps_maps};
+pub use laws::{
+    has_one_shifted_form, new_outcomes_are_a_bijection, shift_keeps_maps, shifted_forms_are_valid,
+};
