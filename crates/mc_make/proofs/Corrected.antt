@@ -1,27 +1,23 @@
 -- A measurement with its corrections, as a measurement behind what the corrections do.
-use Rattle.std.proofs.Common.{◌≡◌, ℕ, ◌+◌, ◌-◌, ◌*◌, ◌<◌, ◌≤◌, Bool, true, false, cond, ◌&&◌, not, ◌++◌, List, [], ◌∷◌, map, refl, sym, ◌∙◌, ap, ap₂, arith}
-use Rattle.std.specs.Prelude.{⊤, nat_eq, flat_map, unwrap_or}
-use Rattle.std.specs.List.{AllByRecursion}
-use Rattle.std.proofs.lemmas.Bool.{eq-eqb, ne_eqb, lt-ltb, cases_eq, cases_Bool, false≢true}
+use Rattle.std.proofs.Common.{◌≡◌, ℕ, ◌<◌, Bool, true, false, ◌&&◌, not, List, map, refl, sym, ◌∙◌, ap, ap₂, arith}
+use Rattle.std.specs.Prelude.{nat_eq, unwrap_or}
+use Rattle.std.proofs.lemmas.Bool.{eq-eqb, ne_eqb, cases_eq}
 use mathlib.Core.Path.{fun_ext}
 use mathlib.Core.Logic.{inl, inr}
 use Rattle.mc_model.specs.Phase.{PhaseOps, PhaseLaws, turn, sign, negated, measured_angle}
-use Rattle.mc_model.specs.Bits.{◌⊻◌, Bits, replaced, parity, odd, all_zero}
+use Rattle.mc_model.specs.Bits.{◌⊻◌, Bits, replaced, parity, all_zero}
 use Rattle.mc_model.specs.Numbers.{numbers_where}
-use Rattle.mc_model.specs.Signals.{Signal, value, signal_of, no_signal}
-use Rattle.mc_model.specs.Pattern.{Command, Pattern, Meas, FixX, FixZ}
-use Rattle.mc_model.specs.Amplitude.{Amps, act, after, start, amp, branch_map, zero_branch, placed}
-use Rattle.mc_model.specs.Translation.{preparations}
-use Rattle.mc_model.specs.Graph.{OpenGraph, size, is_output, is_input, base_angle, odd_neighbourhood, IsOpenGraph, EdgesRise, Edge, entanglings, graph_state, bare_measurement}
-use Rattle.mc_model.specs.Flow.{CorrectsAt, IsFlow, depth_of}
-use Rattle.mc_model.specs.Made.{measuring_order, corrected_measurement, flow_pattern}
+use Rattle.mc_model.specs.Signals.{Signal, value, signal_of}
+use Rattle.mc_model.specs.Pattern.{Command, FixX, FixZ}
+use Rattle.mc_model.specs.Amplitude.{Amps, act, after}
+use Rattle.mc_model.specs.Graph.{OpenGraph, size, base_angle, odd_neighbourhood, bare_measurement}
+use Rattle.mc_model.specs.Flow.{CorrectsAt}
+use Rattle.mc_model.specs.Made.{corrected_measurement}
 use Rattle.mc_model.proofs.PhaseLemmas.{sign-twice, sign-sum, sign-turn}
-use Rattle.mc_model.proofs.BitLemmas.{replaced_itself, xor_false, xor_twice}
-use Rattle.mc_model.proofs.AmplitudeLemmas.{after-append, after-preparations}
-use Rattle.mc_model.proofs.AlikeLemmas.{after-turn}
+use Rattle.mc_model.proofs.BitLemmas.{replaced_itself, xor_false}
+use Rattle.mc_model.proofs.AmplitudeLemmas.{after-append}
 use Rattle.mc_make.proofs.SetSums.{odd-replaced}
-use Rattle.mc_make.proofs.GraphStates.{flipped, Within, set_sum, inside, after-x_set, after-z_set, graph_state-flipped}
-use Rattle.mc_make.proofs.MeasuringOrder.{IsToMeasure, IsLater, IsOrder, measured_in_order}
+use Rattle.mc_make.proofs.GraphStates.{flipped, set_sum, after-x_set, after-z_set}
 
 -- a bit that is not in the set may be replaced before or after the set is flipped
 replaced-flipped : (s : Bits) (v : Bool) (x : Bits) (i : ℕ) (c : Bool) → s i ≡ false →

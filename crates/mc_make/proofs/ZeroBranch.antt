@@ -1,16 +1,14 @@
 -- Measurements without signals may be done in any order, so the zero branch of a flow's pattern is that of the zero pattern.
-use Rattle.std.proofs.Common.{◌≡◌, ℕ, zero, suc, ◌+◌, ◌<◌, ◌≤◌, Bool, true, false, cond, ◌&&◌, ◌||◌, not, ◌++◌, List, [], ◌∷◌, map, refl, sym, ◌∙◌, ap, ap₂, append_assoc, append-nil, arith}
-use Rattle.std.specs.Prelude.{⊤, nat_eq, nat_lt, nat_le, filter}
+use Rattle.std.proofs.Common.{◌≡◌, ℕ, zero, suc, ◌<◌, Bool, true, false, cond, ◌&&◌, ◌||◌, not, ◌++◌, List, [], ◌∷◌, map, refl, sym, ◌∙◌, ap, ap₂, append-nil, arith}
+use Rattle.std.specs.Prelude.{nat_eq}
 use Rattle.std.specs.List.{AllByRecursion}
-use Rattle.std.proofs.lemmas.Bool.{eq-eqb, ne_eqb, eqb-true, ltb-true, lt-ltb, le-ltb, le-leb, lt-leb, leb-true, and_parts, not_from_true, cases_eq, cases_Bool, cases_order, true≢false}
 use Rattle.std.proofs.lemmas.List.{map-append}
 use mathlib.Core.Path.{fun_ext}
-use mathlib.Core.Logic.{inl, inr}
-use Rattle.mc_model.specs.Phase.{PhaseOps, PhaseLaws, turn, sign}
+use Rattle.mc_model.specs.Phase.{PhaseOps, PhaseLaws, sign}
 use Rattle.mc_model.specs.Bits.{◌⊻◌, Bits, replaced, all_zero}
 use Rattle.mc_model.specs.Numbers.{numbers_where}
-use Rattle.mc_model.specs.Pattern.{Command, Pattern}
-use Rattle.mc_model.specs.Amplitude.{Amps, act, after, start, amp, branch_map, zero_branch, placed}
+use Rattle.mc_model.specs.Pattern.{Command}
+use Rattle.mc_model.specs.Amplitude.{Amps, after, start, amp, branch_map, zero_branch, placed}
 use Rattle.mc_model.specs.Graph.{OpenGraph, size, is_output, IsOpenGraph, entanglings, bare_measurement, zero_pattern}
 use Rattle.mc_model.specs.Flow.{IsFlow, depth_of}
 use Rattle.mc_model.specs.Made.{measuring_order, corrected_measurement, flow_pattern}

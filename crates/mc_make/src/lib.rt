@@ -3,4 +3,7 @@
 
 mod laws;
 
-pub use laws::{flow_patterns_are_deterministic, zero_branch_of_flow_pattern};
+pub use laws::{
+    flow_patterns_are_deterministic, flow_patterns_are_valid, measuring_order_falls,
+    zero_branch_of_flow_pattern, zero_patterns_are_valid,
+};

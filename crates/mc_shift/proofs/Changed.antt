@@ -1,6 +1,6 @@
 -- Each qubit is measured once, so its outcome is changed by the second signal of its measurement.
-use Rattle.std.proofs.Common.{◌≡◌, ℕ, Bool, true, false, ◌||◌, List, [], ◌∷◌, ◌++◌, refl, sym, ◌∙◌, ap, append_assoc, arith}
-use Rattle.std.specs.Prelude.{⊤, cond, nat_eq}
+use Rattle.std.proofs.Common.{◌≡◌, ℕ, Bool, true, false, ◌||◌, List, [], ◌∷◌, ◌++◌, refl, sym, ◌∙◌, ap, append_assoc}
+use Rattle.std.specs.Prelude.{⊤, nat_eq}
 use Rattle.std.proofs.lemmas.Bool.{eq-eqb, ne_eqb, cases_Bool, true≢false}
 use mathlib.Core.Path.{subst}
 use mathlib.Core.Logic.{inl, inr}
@@ -9,7 +9,7 @@ use Rattle.mc_model.specs.Signals.{Signal, value}
 use Rattle.mc_model.specs.Pattern.{Command, Prep, Ent, Meas, FixX, FixZ}
 use Rattle.mc_model.specs.Valid.{measured, IsValid}
 use Rattle.mc_model.specs.Shift.{new_outcomes, change_of}
-use Rattle.mc_model.proofs.BitLemmas.{xor_false, xor_comm}
+use Rattle.mc_model.proofs.BitLemmas.{xor_comm}
 use Rattle.mc_model.proofs.ValidLemmas.{measured-append, gone_or_live, moved_on}
 
 -- at each measured qubit the new outcome is the old one plus the value of the second signal

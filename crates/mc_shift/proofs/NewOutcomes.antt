@@ -1,8 +1,8 @@
 -- The change of a valid pattern is a bijection of outcomes.
-use Rattle.std.proofs.Common.{◌≡◌, ℕ, Bool, true, false, cond, List, [], ◌∷◌, ◌++◌, refl, sym, ◌∙◌, ap, ap₂, arith}
+use Rattle.std.proofs.Common.{◌≡◌, ℕ, Bool, true, false, cond, List, [], ◌∷◌, ◌++◌, refl, sym, ◌∙◌, ap, ap₂}
 use Rattle.std.specs.Prelude.{⊤, nat_eq}
 use Rattle.std.proofs.lemmas.Bool.{eq-eqb, ne_eqb, cases_eq, true≢false}
-use mathlib.Core.Path.{subst, fun_ext}
+use mathlib.Core.Path.{subst}
 use mathlib.Core.Logic.{inl, inr}
 use Rattle.mc_model.specs.Bits.{◌⊻◌, Bits, replaced, parity}
 use Rattle.mc_model.specs.Signals.{Signal, value}

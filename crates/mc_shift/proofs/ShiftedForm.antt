@@ -1,6 +1,6 @@
 -- A valid pattern has one shifted form: each member of a signal is replaced by itself and its own second signal.
-use Rattle.std.proofs.Common.{◌≡◌, ℕ, Bool, true, false, cond, List, [], ◌∷◌, ◌++◌, refl, sym, ◌∙◌, ap, ap₂, arith}
-use Rattle.std.specs.Prelude.{⊤, nat_eq}
+use Rattle.std.proofs.Common.{◌≡◌, ℕ, Bool, true, false, List, [], ◌∷◌, ◌++◌, refl, sym, ◌∙◌, ap, ap₂, arith}
+use Rattle.std.specs.Prelude.{⊤}
 use Rattle.std.proofs.lemmas.Bool.{eq-eqb, ne_eqb, cases_eq, true≢false}
 use mathlib.Core.Path.{subst, fun_ext}
 use mathlib.Core.Logic.{inl, inr}
@@ -10,7 +10,7 @@ use Rattle.mc_model.specs.Signals.{Signal, Signals, value, no_signal, signal_of,
 use Rattle.mc_model.specs.Pattern.{Command, Prep, Ent, Meas, FixX, FixZ, Pattern}
 use Rattle.mc_model.specs.Valid.{measured, AllDone, IsValid, IsValidPattern}
 use Rattle.mc_model.specs.Shift.{ChangeRow, new_outcomes, change_of, IsShiftedSignal, IsShifted, IsShiftedForm}
-use Rattle.mc_model.proofs.BitLemmas.{replaced_other, xor_false, xor_assoc, xor_twice}
+use Rattle.mc_model.proofs.BitLemmas.{xor_false, xor_assoc, xor_twice}
 use Rattle.mc_model.proofs.SignalLemmas.{value-sum, same_values, toggled_all_rising, reset}
 use Rattle.mc_model.proofs.ValidLemmas.{none_measured, next_measured, moved_on}
 use Rattle.mc_shift.specs.Laws.{IsBijection, HasOne}
