@@ -79,7 +79,8 @@ module _ {E : Type 0} (ops : PhaseOps E) where
 
 module _ {E : Type 0} (ops : PhaseOps E) (laws : PhaseLaws ops) where
   pub signed_sum : (g : OpenGraph) (i : ℕ) (c : Bool) (d e : E) →
-      sign ops c (ops.add d (weighed ops g i e)) ≡ ops.add (sign ops c d) (weighed ops g i (sign ops c e))
+      sign ops c (ops.add d (weighed ops g i e))
+      ≡ ops.add (sign ops c d) (weighed ops g i (sign ops c e))
   unfolding weighed
   signed_sum g i c d e =
       sign-sum ops laws c d _ ∙ ap (ops.add (sign ops c d)) (sign-turn ops laws c _ e)
@@ -90,8 +91,8 @@ module _ {E : Type 0} (ops : PhaseOps E) (laws : PhaseLaws ops) where
       bare_is ops g i (λ y. sign ops c (f y)) x ∙ sym (signed_sum g i c _ _)
       ∙ ap (sign ops c) (sym (bare_is ops g i f x))
 
-  fixed-replaced : (g : OpenGraph) (s : Bits) (v : Bool) (f : Amps E) (x : Bits) (i : ℕ) (c d : Bool) →
-      i < size g → s i ≡ false → odd_neighbourhood g s i ≡ d →
+  fixed-replaced : (g : OpenGraph) (s : Bits) (v : Bool) (f : Amps E) (x : Bits) (i : ℕ)
+      (c d : Bool) → i < size g → s i ≡ false → odd_neighbourhood g s i ≡ d →
       fixed ops g s v f (replaced x i c)
       ≡ sign ops ((set_sum (size g) (without i (odd_neighbourhood g s)) x ⊻ (d && c)) && v)
       (f (replaced (flipped s v x) i c))
@@ -121,9 +122,9 @@ module _ {E : Type 0} (ops : PhaseOps E) (laws : PhaseLaws ops) where
       ∙ ap₂ (λ (d e : E). ops.add d (weighed ops g i e)) (at false) (at true)
       ∙ sym (bare_is ops g i (fixed ops g s v f) x)
 
-  -- a measurement with its corrections is one with outcome 0 behind the corrections of the whole odd neighbourhood
-  pub corrected_is : (o : Bits) (g : OpenGraph) (layer : ℕ → ℕ) (s : Bits) (i : ℕ) (f : Amps E) (x : Bits) →
-      i < size g → CorrectsAt g s layer i →
+  -- a measurement with its corrections is one with outcome 0 behind all corrections of the set
+  pub corrected_is : (o : Bits) (g : OpenGraph) (layer : ℕ → ℕ) (s : Bits) (i : ℕ) (f : Amps E)
+      (x : Bits) → i < size g → CorrectsAt g s layer i →
       after ops o (corrected_measurement g s i) f x ≡ bare ops g i (fixed ops g s (o i) f) x
   unfolding corrected_measurement without after
   corrected_is o g layer s i f x l corrects =

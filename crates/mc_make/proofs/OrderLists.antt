@@ -34,10 +34,24 @@ count-where p (suc n) q =
     ∙ count-append q (numbers_where p n) (cond (p n) (n ∷ []) [])
     ∙ ap₂ (λ (a b : ℕ). a + b) (count-where p n q) (count-last q n (p n))
     ∙ elim (cases_order q n) [
-      | inl e ↦ rw (e, eq-eqb n n refl, le-ltb n n (omega arith), lt-ltb n (suc n) (omega arith)) (last (p n))
+      | inl e ↦
+          rw (e, eq-eqb n n refl, le-ltb n n (omega arith), lt-ltb n (suc n) (omega arith))
+          (last (p n))
       | inr other ↦ elim other [
-        | inl lt ↦ rw (lt-ltb q n lt, lt-ltb q (suc n) (omega arith), ne_eqb q n (λ e. absurd (omega arith))) (before (p q) (p n))
-        | inr gt ↦ rw (le-ltb q n (omega arith), le-ltb q (suc n) (omega arith), ne_eqb q n (λ e. absurd (omega arith))) (none (p n))
+        | inl lt ↦
+            rw (
+              lt-ltb q n lt,
+              lt-ltb q (suc n) (omega arith),
+              ne_eqb q n (λ e. absurd (omega arith)),
+            )
+            (before (p q) (p n))
+        | inr gt ↦
+            rw (
+              le-ltb q n (omega arith),
+              le-ltb q (suc n) (omega arith),
+              ne_eqb q n (λ e. absurd (omega arith)),
+            )
+            (none (p n))
       ]
     ]
   where
@@ -45,11 +59,12 @@ count-where p (suc n) q =
     last true = refl
     last false = refl
 
+    no_more : (a : Bool) → cond a 1 0 + 0 ≡ cond a 1 0
+    no_more a = omega arith
+
     before : (a b : Bool) → cond a 1 0 + cond (b && false) 1 0 ≡ cond a 1 0
-    before true true = refl
-    before true false = refl
-    before false true = refl
-    before false false = refl
+    before a true = no_more a
+    before a false = no_more a
 
     none : (b : Bool) → 0 + cond (b && false) 1 0 ≡ 0
     none true = refl

@@ -82,7 +82,8 @@ pub parity-append : (qs rs : List ℕ) (x : Bits) → parity (qs ++ rs) x ≡ pa
 unfolding parity
 parity-append [] rs x = refl
 parity-append (q ∷ qs) rs x =
-    ap (λ (b : Bool). x q ⊻ b) (parity-append qs rs x) ∙ sym (xor_assoc (x q) (parity qs x) (parity rs x))
+    ap (λ (b : Bool). x q ⊻ b) (parity-append qs rs x)
+    ∙ sym (xor_assoc (x q) (parity qs x) (parity rs x))
 
 parity-one : (n : ℕ) (x : Bits) (b : Bool) → parity (cond b (n ∷ []) []) x ≡ (b && x n)
 unfolding parity

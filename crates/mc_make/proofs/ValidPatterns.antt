@@ -71,8 +71,8 @@ no_prep : (inputs : ℕ) (before : List Command) (c : Command) (rest : List Comm
     IsValid inputs ((before ++ (c ∷ [])) ++ rest) → IsValid inputs (before ++ (c ∷ rest))
 no_prep inputs before c rest v = subst (IsValid inputs) (append_assoc before (c ∷ []) rest) v
 
-valid_following : (inputs : ℕ) (before : List Command) (total : ℕ) (done : Bits) (cs : List Command) →
-    Leaves inputs before total done → Follows total done cs → IsValid inputs (before ++ cs)
+valid_following : (inputs : ℕ) (before : List Command) (total : ℕ) (done : Bits)
+    (cs : List Command) → Leaves inputs before total done → Follows total done cs → IsValid inputs (before ++ cs)
 unfolding prepared measured
 valid_following inputs before total done [] l f =
     subst (IsValid inputs) (sym (append-nil before)) l.valid
@@ -122,8 +122,8 @@ follows-prepared total done (FixZ q s ∷ cs) f = follows-prepared total done cs
 
 -- ---- the graph state
 
-leaves_preparations : (inputs : ℕ) (before : List Command) (q n : ℕ) → Leaves inputs before q all_zero →
-    Leaves inputs (before ++ preparations q n) (q + n) all_zero
+leaves_preparations : (inputs : ℕ) (before : List Command) (q n : ℕ) →
+    Leaves inputs before q all_zero → Leaves inputs (before ++ preparations q n) (q + n) all_zero
 unfolding preparations prepared measured
 leaves_preparations inputs before q zero l =
     subst (λ (cs : List Command). Leaves inputs cs (q + 0) all_zero) (sym (append-nil before))

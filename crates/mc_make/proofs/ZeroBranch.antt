@@ -1,4 +1,4 @@
--- Measurements without signals may be done in any order, so the zero branch of a flow's pattern is that of the zero pattern.
+-- Measurements at outcomes 0 may be done in any order: the zero branch of a flow's pattern.
 use Rattle.std.proofs.Common.{◌≡◌, ℕ, zero, suc, ◌<◌, Bool, true, false, cond, ◌&&◌, ◌||◌, not, ◌++◌, List, [], ◌∷◌, map, refl, sym, ◌∙◌, ap, ap₂, append-nil, arith}
 use Rattle.std.specs.Prelude.{nat_eq}
 use Rattle.std.specs.List.{AllByRecursion}
@@ -98,7 +98,8 @@ module _ {E : Type 0} (ops : PhaseOps E) (laws : PhaseLaws ops) where
   bare_exchange : (g : OpenGraph) (i j : ℕ) (f : Amps E) → (i ≡ j → ⊥) →
       bare ops g i (bare ops g j f) ≡ bare ops g j (bare ops g i f)
   bare_exchange g i j f ne = fun_ext λ x.
-      let swapped : (b c : Bool) → f (replaced (replaced x i b) j c) ≡ f (replaced (replaced x j c) i b) =
+      let swapped : (b c : Bool) →
+      f (replaced (replaced x i b) j c) ≡ f (replaced (replaced x j c) i b) =
       λ b c. ap f (replaced_swap x i j b c ne) in
       bare_twice g i j f x
       ∙ four _ _ _ _

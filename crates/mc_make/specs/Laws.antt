@@ -1,4 +1,4 @@
--- The laws of the patterns that are made from flows, over the amplitude ring with any `half` above 0.
+-- The laws of patterns made from flows, over the amplitude ring with any `half` above 0.
 use Rattle.std.specs.Prelude.{◌≡◌, ℕ, ◌<◌, ◌≤◌, Bool, not, List, ◌∷◌, ◌++◌}
 use Rattle.mc_model.specs.Numbers.{ListsOnce}
 use Rattle.mc_model.specs.Bits.{Bits, all_zero}

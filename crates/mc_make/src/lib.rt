@@ -1,4 +1,4 @@
-//! Patterns that are made from flows of open graphs.
+//! Patterns that are made from generalised flows of open graphs (Browne, Kashefi, Mhalla and Perdrix 2007).
 #![tactic(auto)]
 
 mod laws;

@@ -99,7 +99,8 @@ changed_behind before c cs o h =
     subst (λ (all : List Command). ChangedBy cs o (new_outcomes (change_of all) o))
     (append_assoc before (c ∷ []) cs) h
 
-pub changed_by : (inputs : ℕ) (before cs : List Command) (o : Bits) → IsValid inputs (before ++ cs) →
+pub changed_by : (inputs : ℕ) (before cs : List Command) (o : Bits) →
+    IsValid inputs (before ++ cs) →
     ChangedBy cs o (new_outcomes (change_of (before ++ cs)) o)
 changed_by inputs before [] o v = tt
 changed_by inputs before (Prep q ∷ cs) o v =
@@ -118,7 +119,8 @@ changed_by inputs before (Meas i a s t ∷ cs) o v =
     let live = (v.at before (Meas i a s t) cs refl).0 in
     let on = moved_on inputs before (Meas i a s t) cs v in (
       new-measured before i a s t cs o live.is_not_measured
-          (measured_once inputs (before ++ (Meas i a s t ∷ [])) cs i on (here_measured before i a s t)),
+          (measured_once inputs (before ++ (Meas i a s t ∷ [])) cs i on
+          (here_measured before i a s t)),
       changed_behind before (Meas i a s t) cs o
           (changed_by inputs (before ++ (Meas i a s t ∷ [])) cs o on),
     )

@@ -1,4 +1,4 @@
--- A valid pattern has one shifted form: each member of a signal is replaced by itself and its own second signal.
+-- A valid pattern has one shifted form: the signal of each measured qubit is put in for it.
 use Rattle.std.proofs.Common.{◌≡◌, ℕ, Bool, true, false, List, [], ◌∷◌, ◌++◌, refl, sym, ◌∙◌, ap, ap₂, arith}
 use Rattle.std.specs.Prelude.{⊤}
 use Rattle.std.proofs.lemmas.Bool.{eq-eqb, ne_eqb, cases_eq, true≢false}
@@ -148,7 +148,8 @@ signal_shifted done d rows s told all = record {
 }
 
 shifted_is : (done : Bits) (d : Signals) (rows : List ChangeRow) (cs : List Command) →
-    TellsAll done d rows → SignalsDone done cs → ChangesAll cs rows → IsShifted rows cs (shifted d cs)
+    TellsAll done d rows → SignalsDone done cs → ChangesAll cs rows →
+    IsShifted rows cs (shifted d cs)
 unfolding shifted
 shifted_is done d rows [] told known change = tt
 shifted_is done d rows (Prep q ∷ cs) told known change =
@@ -245,7 +246,8 @@ form_exists p valid = record {
       (λ o. changed_by p.inputs [] p.commands o valid.commands);
 }
 
-pub form_unique : (p q r : Pattern) → IsValidPattern p → IsShiftedForm p q → IsShiftedForm p r → q ≡ r
+pub form_unique : (p q r : Pattern) → IsValidPattern p → IsShiftedForm p q →
+    IsShiftedForm p r → q ≡ r
 form_unique p q r valid hq hr =
     let onto = new_outcomes_bijection p valid in
     ap₂ (λ (ns : List Name) (n : ℕ). record {

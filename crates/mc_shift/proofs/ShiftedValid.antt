@@ -19,7 +19,8 @@ use Rattle.mc_shift.proofs.ShiftedForm.{expanded, shifted_signal, shifted, none_
 
 -- ---- the members of shifted signals were measured before
 
-done_toggled : (m : Bits) (q : ℕ) (ps : List ℕ) → m q ≡ true → AllDone m ps → AllDone m (toggled q ps)
+done_toggled : (m : Bits) (q : ℕ) (ps : List ℕ) → m q ≡ true → AllDone m ps →
+    AllDone m (toggled q ps)
 unfolding toggled
 done_toggled m q [] h d = (h, tt)
 done_toggled m q (p ∷ ps) h d = elim (cases_Bool (nat_lt q p)) [
@@ -147,50 +148,64 @@ shifted_valid inputs before built d [] v w same known =
     subst (IsValid inputs) (sym (append-nil built)) w
 shifted_valid inputs before built d (Prep q ∷ cs) v w same known =
     let fits = v.at before (Prep q) cs refl in
+    let counts = same.preparations in
     one_more inputs built (Prep q) (shifted d cs)
     (shifted_valid inputs (before ++ (Prep q ∷ [])) (built ++ (Prep q ∷ [])) d cs
     (moved_on inputs before (Prep q) cs v)
-    (valid_with inputs built (Prep q) w
-    (let e = same.preparations in omega arith))
+    (valid_with inputs built (Prep q) w (omega arith))
     (same_on before built (Prep q) (Prep q) same (same_prep q))
     (still_known before (Prep q) d (λ k. refl) known))
 shifted_valid inputs before built d (Ent q r ∷ cs) v w same known =
     let fits = v.at before (Ent q r) cs refl in
-    one_more inputs built (Ent q r) (shifted d cs)
-    (shifted_valid inputs (before ++ (Ent q r ∷ [])) (built ++ (Ent q r ∷ [])) d cs
+    let new : Command = Ent q r in
+    one_more inputs built new (shifted d cs)
+    (shifted_valid inputs (before ++ (Ent q r ∷ [])) (built ++ (new ∷ [])) d cs
     (moved_on inputs before (Ent q r) cs v)
-    (valid_with inputs built (Ent q r) w
-    (live_same inputs before built q same fits.0, live_same inputs before built r same fits.1, fits.2))
-    (same_on before built (Ent q r) (Ent q r) same (same_ent q r))
+    (valid_with inputs built new w (
+      live_same inputs before built q same fits.0,
+      live_same inputs before built r same fits.1,
+      fits.2,
+    ))
+    (same_on before built (Ent q r) new same (same_ent q r))
     (still_known before (Ent q r) d (λ k. refl) known))
 shifted_valid inputs before built d (FixX q s ∷ cs) v w same known =
     let fits = v.at before (FixX q s) cs refl in
-    one_more inputs built (FixX q (shifted_signal d s)) (shifted d cs)
-    (shifted_valid inputs (before ++ (FixX q s ∷ [])) (built ++ (FixX q (shifted_signal d s) ∷ [])) d cs
+    let new : Command = FixX q (shifted_signal d s) in
+    one_more inputs built new (shifted d cs)
+    (shifted_valid inputs (before ++ (FixX q s ∷ [])) (built ++ (new ∷ [])) d cs
     (moved_on inputs before (FixX q s) cs v)
-    (valid_with inputs built (FixX q (shifted_signal d s)) w
-    (live_same inputs before built q same fits.0, shifted_fits before built d s same known fits.1))
-    (same_on before built (FixX q s) (FixX q (shifted_signal d s)) same (same_x q s (shifted_signal d s)))
+    (valid_with inputs built new w (
+      live_same inputs before built q same fits.0,
+      shifted_fits before built d s same known fits.1,
+    ))
+    (same_on before built (FixX q s) new same (same_x q s (shifted_signal d s)))
     (still_known before (FixX q s) d (λ k. refl) known))
 shifted_valid inputs before built d (FixZ q s ∷ cs) v w same known =
     let fits = v.at before (FixZ q s) cs refl in
-    one_more inputs built (FixZ q (shifted_signal d s)) (shifted d cs)
-    (shifted_valid inputs (before ++ (FixZ q s ∷ [])) (built ++ (FixZ q (shifted_signal d s) ∷ [])) d cs
+    let new : Command = FixZ q (shifted_signal d s) in
+    one_more inputs built new (shifted d cs)
+    (shifted_valid inputs (before ++ (FixZ q s ∷ [])) (built ++ (new ∷ [])) d cs
     (moved_on inputs before (FixZ q s) cs v)
-    (valid_with inputs built (FixZ q (shifted_signal d s)) w
-    (live_same inputs before built q same fits.0, shifted_fits before built d s same known fits.1))
-    (same_on before built (FixZ q s) (FixZ q (shifted_signal d s)) same (same_z q s (shifted_signal d s)))
+    (valid_with inputs built new w (
+      live_same inputs before built q same fits.0,
+      shifted_fits before built d s same known fits.1,
+    ))
+    (same_on before built (FixZ q s) new same (same_z q s (shifted_signal d s)))
     (still_known before (FixZ q s) d (λ k. refl) known))
 shifted_valid inputs before built d (Meas i a s t ∷ cs) v w same known =
     let fits = v.at before (Meas i a s t) cs refl in
-    one_more inputs built (Meas i a (shifted_signal d s) no_signal) (shifted (reset d i (shifted_signal d t)) cs)
-    (shifted_valid inputs (before ++ (Meas i a s t ∷ [])) (built ++ (Meas i a (shifted_signal d s) no_signal ∷ [])) (reset d i (shifted_signal d t)) cs
+    let new : Command = Meas i a (shifted_signal d s) no_signal in
+    let now : Signals = reset d i (shifted_signal d t) in
+    one_more inputs built new (shifted now cs)
+    (shifted_valid inputs (before ++ (Meas i a s t ∷ [])) (built ++ (new ∷ [])) now cs
     (moved_on inputs before (Meas i a s t) cs v)
-    (valid_with inputs built (Meas i a (shifted_signal d s) no_signal) w
-    (live_same inputs before built i same fits.0, shifted_fits before built d s same known fits.1, none_fits built))
-    (same_on before built (Meas i a s t) (Meas i a (shifted_signal d s) no_signal) same (same_measured i a s t (shifted_signal d s) no_signal))
-    (subst (λ (m : Bits). Known m (reset d i (shifted_signal d t)))
-    (sym (next_measured before i a s t))
+    (valid_with inputs built new w (
+      live_same inputs before built i same fits.0,
+      shifted_fits before built d s same known fits.1,
+      none_fits built,
+    ))
+    (same_on before built (Meas i a s t) new same (same_measured i a s t (shifted_signal d s) no_signal))
+    (subst (λ (m : Bits). Known m now) (sym (next_measured before i a s t))
     (known_more (measured before) d i t known fits.2.is_done)))
 
 -- ---- what the shifted list counts
@@ -222,7 +237,8 @@ halvings-shifted d (Prep q ∷ cs) = ap suc (halvings-shifted d cs)
 halvings-shifted d (Ent q r ∷ cs) = halvings-shifted d cs
 halvings-shifted d (FixX q s ∷ cs) = halvings-shifted d cs
 halvings-shifted d (FixZ q s ∷ cs) = halvings-shifted d cs
-halvings-shifted d (Meas i a s t ∷ cs) = ap suc (halvings-shifted (reset d i (shifted_signal d t)) cs)
+halvings-shifted d (Meas i a s t ∷ cs) =
+    ap suc (halvings-shifted (reset d i (shifted_signal d t)) cs)
 
 nothing_valid : (inputs : ℕ) → IsValid inputs []
 nothing_valid inputs = record { at = λ before c behind e. absurd (no_place before c behind e) }

@@ -1,4 +1,4 @@
--- The laws of signal shifting, over the elements with `half` coefficients.
+-- The laws of signal shifting, over the amplitude ring with any `half` above 0.
 use Rattle.std.specs.Prelude.{◌≡◌, ℕ, ◌<◌, Bool, List, ◌∷◌, ◌++◌}
 use Rattle.mc_model.specs.Bits.{Bits}
 use Rattle.mc_model.specs.Ring.{ring}
@@ -15,12 +15,12 @@ ShiftKeepsMaps = (half : ℕ) → 0 < half → (p q : Pattern) → IsValidPatter
     branch_map (ring half) p o y b
     ≡ branch_map (ring half) q (new_outcomes (change_of p.commands) o) y b
 
--- each is reached, and from one alone
+-- every outcome list is reached, and from one alone
 pub record IsBijection (change : Bits → Bits) : Type 0 where
   pub reached : (n : Bits) → (o : Bits) × ((k : ℕ) → change o k ≡ n k)
   pub one_to_one : (o o' : Bits) → ((k : ℕ) → change o k ≡ change o' k) → (k : ℕ) → o k ≡ o' k
 
--- the change of a valid pattern takes each list of outcomes to another, and reaches every list
+-- the change of outcomes of a valid pattern
 abbrev pub NewOutcomesAreABijection : Type 0
 NewOutcomesAreABijection = (p : Pattern) → IsValidPattern p →
     IsBijection (new_outcomes (change_of p.commands))
@@ -40,13 +40,13 @@ abbrev pub HasNoSecondSignals : List Command → Type 0
 HasNoSecondSignals cs = (before : List Command) (q a : ℕ) (s t : Signal) (behind : List Command) →
     cs ≡ before ++ (Meas q a s t ∷ behind) → t ≡ no_signal
 
--- a valid pattern without second signals, of the same scale
+-- `q` is a valid pattern without second signals, of the scale of `p`
 pub record IsValidShiftedForm (p q : Pattern) : Type 0 where
   pub valid : IsValidPattern q
   pub no_second : HasNoSecondSignals q.commands
   pub scale : pattern_scale q ≡ pattern_scale p
 
--- the shifted form of a valid pattern is one
+-- the shifted form of a valid pattern is such a pattern
 abbrev pub ShiftedFormsAreValid : Type 0
 ShiftedFormsAreValid = (p q : Pattern) → IsValidPattern p → IsShiftedForm p q →
     IsValidShiftedForm p q

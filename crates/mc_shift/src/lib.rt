@@ -1,4 +1,4 @@
-//! Signal shifting: patterns without second signals.
+//! Signal shifting (Danos, Kashefi and Panangaden 2007): patterns without second signals, at other outcomes.
 #![tactic(auto)]
 
 mod laws;
