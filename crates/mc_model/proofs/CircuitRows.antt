@@ -157,7 +157,8 @@ pub three_gates_standard : standard_form (translation 4 (record {
 unfolding digits negated translation translated last_qubits preparations j_count sum_over_places x_part x_sum first_part second_part first_sum second_sum preparations_of is_edge pairs_at pairs_below measurements_with corrections_below standard_commands standard_form prepared measured toggled toggled_all
 three_gates_standard = refl
 
--- its change is that of the third outcome by the first, and its shifted form corrects by the first and the third
+-- its change is that of the third outcome by the first, and its shifted form corrects by the first
+-- and the third
 abbrev pub three_gates_rows : List ChangeRow
 three_gates_rows =
     (record { qubit = 0; signal = no_signal }) ∷ (record { qubit = 1; signal = no_signal })

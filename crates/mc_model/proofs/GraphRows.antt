@@ -43,15 +43,18 @@ chain_layer (suc (suc zero)) = 1
 chain_layer (suc (suc (suc n))) = 0
 
 -- the odd neighbourhoods of the three sets
-pub chain_odd_a : table 4 (odd_neighbourhood chain (chain_sets 0)) ≡ true ∷ false ∷ false ∷ false ∷ []
+pub chain_odd_a : table 4 (odd_neighbourhood chain (chain_sets 0))
+    ≡ true ∷ false ∷ false ∷ false ∷ []
 unfolding parity joins
 chain_odd_a = refl
 
-pub chain_odd_b : table 4 (odd_neighbourhood chain (chain_sets 1)) ≡ false ∷ true ∷ false ∷ true ∷ []
+pub chain_odd_b : table 4 (odd_neighbourhood chain (chain_sets 1))
+    ≡ false ∷ true ∷ false ∷ true ∷ []
 unfolding parity joins
 chain_odd_b = refl
 
-pub chain_odd_c : table 4 (odd_neighbourhood chain (chain_sets 2)) ≡ false ∷ false ∷ true ∷ false ∷ []
+pub chain_odd_c : table 4 (odd_neighbourhood chain (chain_sets 2))
+    ≡ false ∷ false ∷ true ∷ false ∷ []
 unfolding parity joins
 chain_odd_c = refl
 

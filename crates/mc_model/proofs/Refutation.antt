@@ -102,7 +102,8 @@ odd_of_single g w v l = by (joins g.edges v w) refl
     by false e =
         odd-none (size g) term
         (λ j i. and_by (single w j) (joins g.edges v j) (λ p q.
-        clash (joins g.edges v w) (subst (λ (k : ℕ). joins g.edges v k ≡ true) (eqb-true j w p) q) e))
+        clash (joins g.edges v w) (subst (λ (k : ℕ). joins g.edges v k ≡ true) (eqb-true j w p) q)
+        e))
         ∙ sym e
 
 stuck_at : (g : OpenGraph) (B : Bits) (layer : ℕ → ℕ) (w u : ℕ) → u < size g → B u ≡ true →

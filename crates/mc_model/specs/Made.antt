@@ -71,7 +71,8 @@ cz_gate g next v w =
     cond (nat_lt w v) (CZ (wire_of g next w) (wire_of g next v))
     (CZ (wire_of g next v) (wire_of g next w))
 
--- `J` on the wire of each vertex in order, and then the edges between its next and the vertices that are current
+-- `J` on the wire of each vertex in order, and then the edges between its next and the vertices
+-- that are current
 unfoldable pub extracted_gates : OpenGraph → (ℕ → ℕ) → ℕ → List ℕ → List ℕ → List Gate
 extracted_gates g next half done [] = []
 extracted_gates g next half done (i ∷ is) =

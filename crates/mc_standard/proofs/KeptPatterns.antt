@@ -109,9 +109,9 @@ qubits_inside before cs ds behind h = record {
   measurements = λ k.
       measured-append before (cs ++ behind) k
       ∙ ap (λ (b : Bool). measured before k || b)
-        (measured-append cs behind k
-        ∙ ap (λ (b : Bool). b || measured behind k) (h.measurements k)
-        ∙ sym (measured-append ds behind k))
+      (measured-append cs behind k
+      ∙ ap (λ (b : Bool). b || measured behind k) (h.measurements k)
+      ∙ sym (measured-append ds behind k))
       ∙ sym (measured-append before (ds ++ behind) k);
   scales =
       let e = halvings-append before (cs ++ behind) in
@@ -177,7 +177,7 @@ standard_qubits_at : (inputs : ℕ) (r : Rank) (cs : List Command) → rank cs �
     IsValid inputs cs → SameQubits cs (standard_commands inputs cs)
 standard_qubits_at inputs r =
     rank_ind (λ r. (cs : List Command) → rank cs ≡ r → IsValid inputs cs →
-      SameQubits cs (standard_commands inputs cs))
+    SameQubits cs (standard_commands inputs cs))
     (λ r ih cs e v. elim (improves_or_settled inputs cs v) [
       | inl w ↦
           qubits_on cs w.next (standard_commands inputs cs)
@@ -196,7 +196,7 @@ pub standardised : (p : Pattern) → IsValidPattern p → IsStandardised p
 unfolding standard_form
 standardised p v =
     let h : SameQubits p.commands (standard_commands p.inputs p.commands) =
-        standard_qubits p.inputs p.commands v.commands in
+    standard_qubits p.inputs p.commands v.commands in
     let r : IsReached p.inputs p.commands = standard_reached p.inputs p.commands v.commands in
     record {
       valid = valid_again p (standard_commands p.inputs p.commands) v h r.valid;
