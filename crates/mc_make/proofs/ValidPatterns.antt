@@ -72,7 +72,8 @@ no_prep : (inputs : ℕ) (before : List Command) (c : Command) (rest : List Comm
 no_prep inputs before c rest v = subst (IsValid inputs) (append_assoc before (c ∷ []) rest) v
 
 valid_following : (inputs : ℕ) (before : List Command) (total : ℕ) (done : Bits)
-    (cs : List Command) → Leaves inputs before total done → Follows total done cs → IsValid inputs (before ++ cs)
+    (cs : List Command) → Leaves inputs before total done → Follows total done cs →
+    IsValid inputs (before ++ cs)
 unfolding prepared measured
 valid_following inputs before total done [] l f =
     subst (IsValid inputs) (sym (append-nil before)) l.valid

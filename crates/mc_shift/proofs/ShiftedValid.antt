@@ -204,7 +204,8 @@ shifted_valid inputs before built d (Meas i a s t ∷ cs) v w same known =
       shifted_fits before built d s same known fits.1,
       none_fits built,
     ))
-    (same_on before built (Meas i a s t) new same (same_measured i a s t (shifted_signal d s) no_signal))
+    (same_on before built (Meas i a s t) new same
+    (same_measured i a s t (shifted_signal d s) no_signal))
     (subst (λ (m : Bits). Known m now) (sym (next_measured before i a s t))
     (known_more (measured before) d i t known fits.2.is_done)))
 
