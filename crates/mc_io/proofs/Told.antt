@@ -1,5 +1,5 @@
 -- What a source told and a sink was given over two calls in a row.
-use Rattle.std.proofs.Common.{◌≡◌, List, ℕ, [], ◌++◌, Option, Some, None, refl, sym, ap, ◌∙◌, append_assoc}
+use Rattle.std.proofs.Common.{List, ℕ, [], ◌++◌, Option, Some, None, refl, sym, ap, ◌∙◌, append_assoc}
 use Rattle.std.proofs.lemmas.List.{append-nil}
 use Rattle.std.specs.Io.KnownBytes.{Consumes}
 use Rattle.mc_io.specs.Told.{TellsAsBefore, AppendsWhereTold}
@@ -32,7 +32,8 @@ pub TellsAsBefore-refl : (a : Option (List ℕ)) → TellsAsBefore a a
 TellsAsBefore-refl None = tt
 TellsAsBefore-refl (Some xs) = tt
 
-pub TellsAsBefore-trans : (a b c : Option (List ℕ)) → TellsAsBefore a b → TellsAsBefore b c → TellsAsBefore a c
+pub TellsAsBefore-trans : (a b c : Option (List ℕ))
+    → TellsAsBefore a b → TellsAsBefore b c → TellsAsBefore a c
 TellsAsBefore-trans None None None p q = tt
 TellsAsBefore-trans None None (Some zs) p q = absurd q
 TellsAsBefore-trans None (Some ys) c p q = absurd p

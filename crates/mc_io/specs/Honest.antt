@@ -17,8 +17,10 @@ abbrev pub told : Kept → Option (List ℕ)
 told sink = if sink.dropped then None else Some sink.kept
 
 -- one write: it takes the whole part, and drops what is past the room
-pub record HonestWrites {E : Type 0} (old : Kept) (part : List ℕ) (result : Result ℕ E) (new : Kept) : Type 0 where
+pub record HonestWrites {E : Type 0} (old : Kept) (part : List ℕ) (result : Result ℕ E) (new : Kept)
+    : Type 0 where
   pub count : IsOkAnd result (λ n. n ≡ length part)
   pub kept : new.kept ≡ take old.room (old.kept ++ part)
-  pub dropped : IsTrue new.dropped ↔ (IsTrue old.dropped ⊎ (old.room < length old.kept + length part))
+  pub dropped : IsTrue new.dropped
+      ↔ (IsTrue old.dropped ⊎ (old.room < length old.kept + length part))
   pub room : new.room ≡ old.room

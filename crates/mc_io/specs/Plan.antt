@@ -1,5 +1,5 @@
 -- Calls that fail by their numbers.
-use Rattle.std.specs.Prelude.{◌≡◌, ℕ, ◌+◌, ◌-◌, ◌^◌, ◌<◌, List, [], min, Result}
+use Rattle.std.specs.Prelude.{ℕ, ◌+◌, ◌-◌, ◌^◌, ◌<◌, List, min, Result}
 use Rattle.std.specs.List.{Contains}
 use Rattle.mc_io.specs.Faults.{faults_after}
 

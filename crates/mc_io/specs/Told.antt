@@ -28,9 +28,12 @@ abbrev pub AppendsPrefix : Option (List ℕ) → Option (List ℕ) → List ℕ 
 AppendsPrefix old new bs = (n : ℕ) × (n ≤ length bs) × AppendsWhereTold old new (take n bs)
 
 -- `write(part)` appended the first n bytes at `Ok(n)`, and nothing at `Err`
-abbrev pub WritesPart : {E : Type 0} → Option (List ℕ) → Option (List ℕ) → Result ℕ E → List ℕ → Type 0
+abbrev pub WritesPart : {E : Type 0}
+    → Option (List ℕ) → Option (List ℕ) → Result ℕ E → List ℕ → Type 0
 WritesPart old new result part =
-    MatchResult result (λ n. AppendsWhereTold old new (take n part)) (λ _. AppendsWhereTold old new [])
+    MatchResult result
+    (λ n. AppendsWhereTold old new (take n part))
+    (λ _. AppendsWhereTold old new [])
 
 -- the count of a write: at most the part's length, and at least 1 where the part is not empty
 abbrev pub CountsPart : {E : Type 0} → Result ℕ E → List ℕ → Type 0

@@ -12,7 +12,8 @@ use mc_model::Memory;
 use std::alloc::Global;
 use std::marker::Model;
 
-/// A source over bytes in memory, which tells what is left. It never fails: its count of faults is the constant 0.
+/// A source over bytes in memory, which tells what is left. It never fails: its count of faults is the
+/// constant 0.
 #[derive(Drop)]
 pub struct HonestSource {
     unread: Unread,
@@ -49,8 +50,9 @@ impl Source for HonestSource {
     }
 }
 
-/// A sink in memory that keeps the first bytes that it is given, as many as it has room for, and drops the rest. It tells what
-/// was written as long as nothing was dropped. It never fails: its count of faults is the constant 0.
+/// A sink in memory that keeps the first bytes that it is given, as many as it has room for, and drops
+/// the rest. It tells what was written as long as nothing was dropped. It never fails: its count of
+/// faults is the constant 0.
 #[derive(Drop)]
 pub struct HonestSink {
     store: Store,

@@ -13,9 +13,11 @@ use mc_model::Memory;
 use std::alloc::Global;
 use std::marker::Model;
 
-/// A sink in memory, which tells what was written. A write takes at most `piece` bytes. The writes are numbered from 0, and those
-/// whose number is in `failing` fail, as does one of a part that is not empty when no room is left. The number stops at
-/// `u32::MAX`, and no write is in `failing` from there on.
+/// A sink in memory, which tells what was written. A write takes at most `piece` bytes.
+///
+/// The writes are numbered from 0, and those whose number is in `failing` fail, as does one of a part
+/// that is not empty when no room is left. The number stops at `u32::MAX`, and no write is in
+/// `failing` from there on.
 #[derive(Drop)]
 pub struct MemSink {
     store: Store,
@@ -26,13 +28,15 @@ pub struct MemSink {
 impl Model for MemSink {
     ghost Value = { SinkState };
 
-    ghost view = { λ s. record { kept = s.store.0; room = s.store.1; piece = s.piece; plan = s.plan } };
+    ghost view = { λ s.
+        record { kept = s.store.0; room = s.store.1; piece = s.piece; plan = s.plan } };
 
     ghost invariant = { λ s. 1 ≤ s.piece };
 }
 
 impl MemSink {
-    /// An empty sink before its first write, which takes its room at once. The error is want of memory.
+    /// An empty sink before its first write, which takes its room at once.
+    /// The error is want of memory.
     pub fn new(
         alloc: Global,
         room: usize,
@@ -40,7 +44,8 @@ impl MemSink {
         failing: Vec<u32>,
     ) -> Result<MemSink, Memory>
         requires { 1 ≤ piece }
-        ensures { IfOk result (λ s. s ≡ record { kept = []; room = room; piece = piece; plan = plan_of failing.items }) }
+        ensures { IfOk result (λ s.
+            s ≡ record { kept = []; room = room; piece = piece; plan = plan_of failing.items }) }
     {
         let store = Store::new(alloc, room)?;
         Ok(MemSink {

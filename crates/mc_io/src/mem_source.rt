@@ -11,8 +11,10 @@ use crate::source_sink::Source;
 use crate::unread::Unread;
 use std::marker::Model;
 
-/// A source over bytes in memory, which tells what is left. A read gives at most `piece` bytes. The reads are numbered from 0,
-/// and those whose number is in `failing` fail. The number stops at `u32::MAX`, and no read fails from there on.
+/// A source over bytes in memory, which tells what is left. A read gives at most `piece` bytes.
+///
+/// The reads are numbered from 0, and those whose number is in `failing` fail. The number stops at
+/// `u32::MAX`, and no read fails from there on.
 #[derive(Drop)]
 pub struct MemSource {
     unread: Unread,
@@ -32,7 +34,8 @@ impl MemSource {
     /// A source with these bytes left, before its first read.
     pub fn new(bytes: Vec<u8>, piece: usize, failing: Vec<u32>) -> MemSource
         requires { 1 ≤ piece }
-        ensures { result ≡ record { left = bytes.items; piece = piece; plan = plan_of failing.items } }
+        ensures { result ≡
+            record { left = bytes.items; piece = piece; plan = plan_of failing.items } }
     {
         MemSource {
             unread: Unread::new(bytes),

@@ -31,7 +31,8 @@ impl CallPlan {
         }
     }
 
-    /// Whether the next call is one of those that fail. None is from `u32::MAX` on, where the number stops.
+    /// Whether the next call is one of those that fail. None is from `u32::MAX` on, where the number
+    /// stops.
     pub(crate) fn is_due_to_fail(&self) -> bool
         ensures { IsTrue result ↔ IsDueToFail self.now }
     {

@@ -10,8 +10,8 @@ use crate::source_sink::{Sink, Source};
 use std::io::{Read, Write};
 use std::marker::Model;
 
-/// A source over a reader, which tells no bytes. An interrupted read counts as a fault, as every error does.
-/// A contract sees the reader and the count of faults, which stops at `u64::MAX`.
+/// A source over a reader, which tells no bytes. An interrupted read counts as a fault, as every error
+/// does. A contract sees the reader and the count of faults, which stops at `u64::MAX`.
 #[derive(Drop)]
 pub struct StdSource<R> {
     reader: R,
@@ -39,7 +39,8 @@ impl<R: Read> Source for StdSource<R> {
     ghost faults = { λ s. min s.1 (2 ^ 64 - 1) };
 
     // What the reader itself gave, where it knows its bytes, and the count.
-    ghost reads = { λ old buf result new. ReadConsumes (R.remaining old.0) (R.remaining new.0) result buf
+    ghost reads = { λ old buf result new.
+        ReadConsumes (R.remaining old.0) (R.remaining new.0) result buf
         × (new.1 ≡ faults_after old.1 result) };
 
     ghost fits = { λ s. Prim.omega arith };
@@ -56,8 +57,9 @@ impl<R: Read> Source for StdSource<R> {
     }
 }
 
-/// A sink over a writer, which tells no bytes. An interrupted write counts as a fault, as every error does and as a write that
-/// takes nothing of a part that is not empty. A contract sees the writer and the count of faults, which stops at `u64::MAX`.
+/// A sink over a writer, which tells no bytes. An interrupted write counts as a fault, as every error
+/// does and as a write that takes nothing of a part that is not empty. A contract sees the writer and
+/// the count of faults, which stops at `u64::MAX`.
 #[derive(Drop)]
 pub struct StdSink<W> {
     writer: W,
@@ -85,7 +87,8 @@ impl<W: Write> Sink for StdSink<W> {
     ghost faults = { λ s. min s.1 (2 ^ 64 - 1) };
 
     // What the writer itself took, where it knows its bytes, and the count.
-    ghost writes = { λ old part result new. WriteAppends (W.contents old.0) (W.contents new.0) result part
+    ghost writes = { λ old part result new.
+        WriteAppends (W.contents old.0) (W.contents new.0) result part
         × (new.1 ≡ faults_after old.1 result) };
 
     ghost fits = { λ s. Prim.omega arith };

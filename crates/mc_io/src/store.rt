@@ -44,7 +44,8 @@ impl Store {
         self.room <= self.bytes.len()
     }
 
-    /// Keeps the first bytes of the part, at most so many and as many as there is room for, and gives their number.
+    /// Keeps the first bytes of the part, at most so many and as many as there is room for, and gives
+    /// their number.
     pub(crate) fn keep(&mut self, most: usize, part: &[u8]) -> usize
         ensures within { length self.old.0 ≤ self.old.1 }
         ensures count { result ≡ min most (min (length part.now) (self.old.1 - length self.old.0)) }

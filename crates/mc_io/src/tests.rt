@@ -117,7 +117,7 @@ fn read(alloc: Global, failing: u32) -> Result<Result<usize, ReadEnd>, Fail> {
     Ok(read_all(alloc, &mut source, 51).map(|bytes| bytes.len()))
 }
 
-/// How a write of the text ends in pieces of ten, where one call fails, and how many bytes were written.
+/// How a write of the text ends in pieces of ten, where one call fails, and how much was written.
 fn written(alloc: Global, room: usize, failing: u32) -> Result<(bool, usize), Fail> {
     let mut sink = MemSink::new(alloc, room, 10, [failing].to_vec(alloc)?)?;
     let end = write_all(&mut sink, TEXT);

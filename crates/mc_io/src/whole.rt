@@ -15,16 +15,18 @@ const CHUNK: usize = 16_384;
 
 /// All bytes that are left, read to the end of input.
 ///
-/// `Fault`: a read failed. `TooLong`: more than `limit` bytes were left and no read failed before; `limit + 1` of them were taken.
-/// `Memory`: want of memory. The bytes that were read are gone from the source, whatever the answer.
+/// `Fault`: a read failed. `TooLong`: more than `limit` bytes were left and no read failed before;
+/// `limit + 1` of them were taken. `Memory`: want of memory. The bytes that were read are gone from the
+/// source, whatever the answer.
 pub fn read_all<S: Source>(alloc: Global, source: &mut S, limit: usize) -> Result<Vec<u8>, ReadEnd>
     requires { limit < usize.MAX }
 
-    // Told bytes decide between the first two answers.
+    // Told bytes decide between `Ok` and `TooLong`.
     ensures all { IfOk result (λ bytes. IfSome (S.left source.old) (λ left. bytes.items ≡ left)) }
     ensures end { OnOk result (IsAtEnd (S.left source.new)) }
     ensures short { IfOk result (λ bytes. vec_len bytes ≤ limit) }
-    ensures too_long { result ≡ Err ReadEnd.TooLong → Takes (S.left source.old) (S.left source.new) (limit + 1) }
+    ensures too_long { result ≡ Err ReadEnd.TooLong →
+        Takes (S.left source.old) (S.left source.new) (limit + 1) }
 
     // Whatever the answer.
     ensures taken { TakesAtMost (S.left source.old) (S.left source.new) (limit + 1) }
@@ -54,7 +56,8 @@ pub fn read_all<S: Source>(alloc: Global, source: &mut S, limit: usize) -> Resul
 /// Writes the whole text. `Failed`: a write failed, and a prefix of the text was written.
 pub fn write_all<K: Sink>(sink: &mut K, text: &[u8]) -> Result<(), Failed>
     ensures ok { OnOk result (AppendsWhereTold (K.written sink.old) (K.written sink.new) text.now) }
-    ensures failed { OnErr result (AppendsPrefix (K.written sink.old) (K.written sink.new) text.now) }
+    ensures failed { OnErr result
+        (AppendsPrefix (K.written sink.old) (K.written sink.new) text.now) }
     ensures cause { HasCause (K.faults sink.old) (K.faults sink.new) result }
     ensures calls { MakesWrites K.writes text.now sink.old result sink.new }
 {
