@@ -15,7 +15,7 @@ use Rattle.mc_model.specs.Graph.{Edge, OpenGraph, size, is_output, base_angle, o
 use Rattle.mc_model.specs.Flow.{IsFlow, depth_of}
 use Rattle.mc_model.specs.Made.{measuring_order, corrected_measurement, flow_pattern}
 use Rattle.mc_model.proofs.BitLemmas.{replaced_same, replaced_other}
-use Rattle.mc_model.proofs.ValidLemmas.{measured-append, prepared-append, next_measured, none_measured, valid_with}
+use Rattle.mc_model.proofs.ValidLemmas.{measured-append, prepared-append, next_measured, none_measured, valid_with, nothing_valid}
 use Rattle.mc_make.proofs.MeasuringOrder.{IsLater, IsOrder, IsWhere, where_all, all-weaker, measured_in_order}
 use Rattle.mc_make.proofs.OrderLists.{count-where, order_once, member_once}
 
@@ -142,14 +142,6 @@ leaves_preparations inputs before q (suc n) l =
     (subst (λ (cs : List Command). Leaves inputs cs (suc q + n) all_zero)
     (append_assoc before (Prep q ∷ []) (preparations (suc q) n))
     (leaves_preparations inputs (before ++ (Prep q ∷ [])) (suc q) n more))
-
-nothing_valid : (inputs : ℕ) → IsValid inputs []
-nothing_valid inputs = record { at = λ before c behind e. absurd (no_place before c behind e) }
-  where
-    no_place : (before : List Command) (c : Command) (behind : List Command) →
-        [] ≡ before ++ (c ∷ behind) → ⊥
-    no_place [] c behind e = absurd (cc)
-    no_place (b ∷ before) c behind e = absurd (cc)
 
 prepared_all : (g : OpenGraph) → IsOpenGraph g →
     Leaves g.inputs (preparations g.inputs (size g - g.inputs)) (size g) all_zero

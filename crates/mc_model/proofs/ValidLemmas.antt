@@ -1,13 +1,13 @@
 -- From places to recursions along the list, and back for a builder that appends.
 use Rattle.std.proofs.Common.{◌≡◌, ℕ, ◌+◌, Bool, true, false, ◌||◌, List, [], ◌∷◌, ◌++◌, refl, sym, ◌∙◌, ap, ap₂, append_assoc, arith}
-use Rattle.std.specs.Prelude.{nat_eq}
+use Rattle.std.specs.Prelude.{nat_eq, nat_lt}
 use mathlib.Core.Path.{fun_ext, subst, subst₂}
 use mathlib.Core.Logic.{inl, inr}
-use Rattle.std.proofs.lemmas.Bool.{eq-eqb, ne_eqb, cases_eq, true≢false}
-use Rattle.mc_model.specs.Bits.{replaced}
-use Rattle.mc_model.specs.Signals.{Signal}
+use Rattle.std.proofs.lemmas.Bool.{eq-eqb, ne_eqb, cases_eq, cases_Bool, true≢false}
+use Rattle.mc_model.specs.Bits.{Bits, replaced}
+use Rattle.mc_model.specs.Signals.{Signal, toggled, toggled_all}
 use Rattle.mc_model.specs.Pattern.{Command, Prep, Ent, Meas, FixX, FixZ}
-use Rattle.mc_model.specs.Valid.{measured, prepared, FitsBehind, IsLive, IsValid}
+use Rattle.mc_model.specs.Valid.{AllDone, measured, prepared, FitsBehind, IsLive, IsValid}
 
 pub measured-append : (cs ds : List Command) (k : ℕ) →
     measured (cs ++ ds) k ≡ measured cs k || measured ds k
@@ -90,6 +90,9 @@ last_place (x ∷ cs) d (b ∷ before) c behind e earlier last =
     (λ rest h. earlier rest (ap₂ (λ (y : _) (ys : List _). y ∷ ys) f h))
     (λ h k. last (ap₂ (λ (y : _) (ys : List _). y ∷ ys) f h) k)
 
+pub nothing_valid : (inputs : ℕ) → IsValid inputs []
+nothing_valid inputs = record { at = λ before c behind e. absurd (no_cons before c behind e) }
+
 pub valid_with : (inputs : ℕ) (cs : List Command) (d : Command) → IsValid inputs cs →
     FitsBehind inputs cs d → IsValid inputs (cs ++ (d ∷ []))
 valid_with inputs cs d v fits = record {
@@ -98,3 +101,27 @@ valid_with inputs cs d v fits = record {
       (λ rest h. v.at before c rest h)
       (λ h k. subst₂ (λ (bs : List Command) (b : Command). FitsBehind inputs bs b) h k fits);
 }
+
+-- which qubits are live depends on what is prepared and measured alone
+pub live_same : (inputs : ℕ) (b1 b2 : List Command) (q : ℕ) → prepared b1 ≡ prepared b2 →
+    measured b1 ≡ measured b2 → IsLive inputs b1 q → IsLive inputs b2 q
+live_same inputs b1 b2 q p m l = record {
+  is_there = let h = l.is_there in omega arith;
+  is_not_measured = sym (ap (λ (g : Bits). g q) m) ∙ l.is_not_measured;
+}
+
+-- the members of sums were measured where those of the parts were
+pub done_toggled : (m : Bits) (q : ℕ) (ps : List ℕ) → m q ≡ true → AllDone m ps →
+    AllDone m (toggled q ps)
+unfolding toggled
+done_toggled m q [] h d = (h, tt)
+done_toggled m q (p ∷ ps) h d = elim (cases_Bool (nat_lt q p)) [
+  | inl e ↦ rw e (h, d)
+  | inr e ↦ rw e (elim (cases_Bool (nat_eq q p))
+      [ inl f ↦ rw f d.1 | inr f ↦ rw f (d.0, done_toggled m q ps h d.1) ])
+]
+
+pub done_sum : (m : Bits) (qs ps : List ℕ) → AllDone m qs → AllDone m ps → AllDone m (toggled_all qs ps)
+unfolding toggled_all
+done_sum m [] ps dq dp = dp
+done_sum m (q ∷ qs) ps dq dp = done_toggled m q (toggled_all qs ps) dq.0 (done_sum m qs ps dq.1 dp)

@@ -13,29 +13,11 @@ use Rattle.mc_model.specs.Valid.{prepared, measured, IsLive, SignalFits, AllDone
 use Rattle.mc_model.specs.Shift.{ChangeRow, change_of, IsShifted, IsShiftedForm}
 use Rattle.mc_model.proofs.BitLemmas.{replaced_same, replaced_other}
 use Rattle.mc_model.proofs.SignalLemmas.{reset}
-use Rattle.mc_model.proofs.ValidLemmas.{measured-append, prepared-append, next_measured, none_measured, moved_on, valid_with}
+use Rattle.mc_model.proofs.ValidLemmas.{measured-append, prepared-append, next_measured, none_measured, moved_on, valid_with, nothing_valid, done_sum, live_same}
 use Rattle.mc_shift.specs.Laws.{IsValidShiftedForm}
 use Rattle.mc_shift.proofs.ShiftedForm.{expanded, shifted_signal, shifted, none_yet, shifted_form, expanded_rising, form_exists, form_unique}
 
 -- ---- the members of shifted signals were measured before
-
-done_toggled : (m : Bits) (q : ℕ) (ps : List ℕ) → m q ≡ true → AllDone m ps →
-    AllDone m (toggled q ps)
-unfolding toggled
-done_toggled m q [] h d = (h, tt)
-done_toggled m q (p ∷ ps) h d = elim (cases_Bool (nat_lt q p)) [
-  | inl e ↦ rw e (h, d)
-  | inr e ↦ rw e (elim (cases_Bool (nat_eq q p)) [
-    | inl f ↦ rw f d.1
-    | inr f ↦ rw f (d.0, done_toggled m q ps h d.1)
-  ])
-]
-
-done_sum : (m : Bits) (qs ps : List ℕ) → AllDone m qs → AllDone m ps → AllDone m (toggled_all qs ps)
-unfolding toggled_all
-done_sum m [] ps dq dp = dp
-done_sum m (q ∷ qs) ps dq dp =
-    done_toggled m q (toggled_all qs ps) dq.0 (done_sum m qs ps dq.1 dp)
 
 done_more : (m : Bits) (i : ℕ) (qs : List ℕ) → AllDone m qs → AllDone (replaced m i true) qs
 done_more m i [] d = tt
@@ -89,13 +71,6 @@ same_on before built c d h k = record {
       measured-append before (c ∷ []) q
       ∙ ap₂ (λ (m n : Bits). m q || n q) h.measurements k.measurements
       ∙ sym (measured-append built (d ∷ []) q);
-}
-
-live_same : (inputs : ℕ) (before built : List Command) (q : ℕ) → SameSoFar before built →
-    IsLive inputs before q → IsLive inputs built q
-live_same inputs before built q h l = record {
-  is_there = let e = h.preparations in let t = l.is_there in omega arith;
-  is_not_measured = sym (ap (λ (m : Bits). m q) h.measurements) ∙ l.is_not_measured;
 }
 
 shifted_fits : (before built : List Command) (d : Signals) (s : Signal) → SameSoFar before built →
@@ -162,8 +137,8 @@ shifted_valid inputs before built d (Ent q r ∷ cs) v w same known =
     (shifted_valid inputs (before ++ (Ent q r ∷ [])) (built ++ (new ∷ [])) d cs
     (moved_on inputs before (Ent q r) cs v)
     (valid_with inputs built new w (
-      live_same inputs before built q same fits.0,
-      live_same inputs before built r same fits.1,
+      live_same inputs before built q same.preparations same.measurements fits.0,
+      live_same inputs before built r same.preparations same.measurements fits.1,
       fits.2,
     ))
     (same_on before built (Ent q r) new same (same_ent q r))
@@ -175,7 +150,7 @@ shifted_valid inputs before built d (FixX q s ∷ cs) v w same known =
     (shifted_valid inputs (before ++ (FixX q s ∷ [])) (built ++ (new ∷ [])) d cs
     (moved_on inputs before (FixX q s) cs v)
     (valid_with inputs built new w (
-      live_same inputs before built q same fits.0,
+      live_same inputs before built q same.preparations same.measurements fits.0,
       shifted_fits before built d s same known fits.1,
     ))
     (same_on before built (FixX q s) new same (same_x q s (shifted_signal d s)))
@@ -187,7 +162,7 @@ shifted_valid inputs before built d (FixZ q s ∷ cs) v w same known =
     (shifted_valid inputs (before ++ (FixZ q s ∷ [])) (built ++ (new ∷ [])) d cs
     (moved_on inputs before (FixZ q s) cs v)
     (valid_with inputs built new w (
-      live_same inputs before built q same fits.0,
+      live_same inputs before built q same.preparations same.measurements fits.0,
       shifted_fits before built d s same known fits.1,
     ))
     (same_on before built (FixZ q s) new same (same_z q s (shifted_signal d s)))
@@ -200,7 +175,7 @@ shifted_valid inputs before built d (Meas i a s t ∷ cs) v w same known =
     (shifted_valid inputs (before ++ (Meas i a s t ∷ [])) (built ++ (new ∷ [])) now cs
     (moved_on inputs before (Meas i a s t) cs v)
     (valid_with inputs built new w (
-      live_same inputs before built i same fits.0,
+      live_same inputs before built i same.preparations same.measurements fits.0,
       shifted_fits before built d s same known fits.1,
       none_fits built,
     ))
@@ -240,14 +215,6 @@ halvings-shifted d (FixX q s ∷ cs) = halvings-shifted d cs
 halvings-shifted d (FixZ q s ∷ cs) = halvings-shifted d cs
 halvings-shifted d (Meas i a s t ∷ cs) =
     ap suc (halvings-shifted (reset d i (shifted_signal d t)) cs)
-
-nothing_valid : (inputs : ℕ) → IsValid inputs []
-nothing_valid inputs = record { at = λ before c behind e. absurd (no_place before c behind e) }
-  where
-    no_place : (before : List Command) (c : Command) (behind : List Command) →
-        [] ≡ before ++ (c ∷ behind) → ⊥
-    no_place [] c behind e = absurd (cc)
-    no_place (b ∷ before) c behind e = absurd (cc)
 
 form_valid : (p : Pattern) → IsValidPattern p → IsValidPattern (shifted_form p)
 unfolding shifted_form
