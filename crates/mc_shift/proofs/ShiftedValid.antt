@@ -1,15 +1,15 @@
 -- The shifted form of a valid pattern is valid, and prepares and measures what the pattern does.
 use Rattle.std.proofs.Common.{◌≡◌, ℕ, suc, ◌+◌, Bool, true, false, not, ◌||◌, List, [], ◌∷◌, ◌++◌, length, refl, sym, ◌∙◌, ap, ap₂, append_assoc, append-nil, arith}
-use Rattle.std.specs.Prelude.{nat_eq, nat_lt}
-use Rattle.std.proofs.lemmas.Bool.{eq-eqb, ne_eqb, cases_eq, cases_Bool}
+use Rattle.std.specs.Prelude.{nat_eq}
+use Rattle.std.proofs.lemmas.Bool.{eq-eqb, ne_eqb, cases_eq}
 use mathlib.Core.Path.{subst, fun_ext}
 use mathlib.Core.Logic.{inl, inr}
 use Rattle.mc_model.specs.Numbers.{ListsOnce}
 use Rattle.mc_model.specs.Bits.{Bits, replaced}
-use Rattle.mc_model.specs.Signals.{Signal, Signals, no_signal, toggled, toggled_all}
+use Rattle.mc_model.specs.Signals.{Signal, Signals, no_signal, toggled_all}
 use Rattle.mc_model.specs.Pattern.{Command, Prep, Ent, Meas, FixX, FixZ, Pattern}
 use Rattle.mc_model.specs.Amplitude.{halvings, pattern_scale}
-use Rattle.mc_model.specs.Valid.{prepared, measured, IsLive, SignalFits, AllDone, IsValid, IsValidPattern}
+use Rattle.mc_model.specs.Valid.{prepared, measured, SignalFits, AllDone, IsValid, IsValidPattern}
 use Rattle.mc_model.specs.Shift.{ChangeRow, change_of, IsShifted, IsShiftedForm}
 use Rattle.mc_model.proofs.BitLemmas.{replaced_same, replaced_other}
 use Rattle.mc_model.proofs.SignalLemmas.{reset}
