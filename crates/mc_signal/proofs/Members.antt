@@ -45,15 +45,15 @@ unfolding toggled
 member_toggled_by q p ps k true t e f rising rest =
     let less = ltb-true q p e in
     rw e
-      (is_member-first q k (p ∷ ps) (less, AllAbove-lower q p ps less rising.0)
-      ∙ moved_last (nat_eq k q) (is_member (p ∷ ps) k))
+    (is_member-first q k (p ∷ ps) (less, AllAbove-lower q p ps less rising.0)
+    ∙ moved_last (nat_eq k q) (is_member (p ∷ ps) k))
 member_toggled_by q p ps k false true e f rising rest =
     let same : q ≡ p = eqb-true q p f in
     rw (e, f, is_member-first p k ps rising.0, same) (out_again (nat_eq k p) (is_member ps k))
 member_toggled_by q p ps k false false e f rising rest =
     let all = rw (e, f) at (toggled_rising q (p ∷ ps) rising) in
     rw (e, f, is_member-first p k (toggled q ps) all.0, is_member-first p k ps rising.0, rest)
-      (regrouped (nat_eq k p) (is_member ps k) (nat_eq k q))
+    (regrouped (nat_eq k p) (is_member ps k) (nat_eq k q))
 
 pub is_member-toggled : (q : ℕ) (ps : List ℕ) (k : ℕ) → IsRising ps
     → is_member (toggled q ps) k ≡ (is_member ps k ⊻ nat_eq k q)
@@ -67,16 +67,19 @@ pub is_member-toggled_all : (ps qs : List ℕ) (k : ℕ) → IsRising ps → IsR
 unfolding toggled_all
 is_member-toggled_all [] qs k left right = refl
 is_member-toggled_all (p ∷ ps) qs k left right =
-    rw (is_member-toggled p (toggled_all ps qs) k (toggled_all_rising ps qs right),
-        is_member-toggled_all ps qs k left.1 right, is_member-first p k ps left.0)
-      (first_last (nat_eq k p) (is_member ps k) (is_member qs k))
+    rw (
+      is_member-toggled p (toggled_all ps qs) k (toggled_all_rising ps qs right),
+      is_member-toggled_all ps qs k left.1 right,
+      is_member-first p k ps left.0,
+    )
+    (first_last (nat_eq k p) (is_member ps k) (is_member qs k))
 
 small_by : (q : ℕ) (ps : List ℕ) → ((i : ℕ) → i < length ps → get_or ps i 0 < 256) → is_member ps q ≡ true → q < 256
 small_by q [] small member = absurd (cc member)
 small_by q (p ∷ ps) small member = elim (cases_Bool (nat_eq q p)) [
-    | inl e ↦ let same = eqb-true q p e in let first = small 0 (omega arith) in omega arith
-    | inr e ↦ small_by q ps (λ i lt. small (suc i) (omega arith)) (rw e at member)
-    ]
+  | inl e ↦ let same = eqb-true q p e in let first = small 0 (omega arith) in omega arith
+  | inr e ↦ small_by q ps (λ i lt. small (suc i) (omega arith)) (rw e at member)
+]
 
 pub is_member-small : (q : ℕ) (ps : List ℕ) → All (λ p. p < 256) ps → is_member ps q ≡ true → q < 256
 is_member-small q ps small member = small_by q ps (λ i lt. small i 0 lt) member

@@ -29,7 +29,7 @@ toggled_all-above : (q : ℕ) (ps qs : List ℕ) → AllAbove q ps → AllAbove 
     → AllAbove q (toggled_all ps qs)
 toggled_all-above q ps qs above_ps above_qs rising =
     let all : IsRising (q ∷ toggled_all ps qs) =
-      rw (toggled_all-least q ps qs above_ps) at (toggled_all_rising ps (q ∷ qs) (above_qs, rising)) in
+    rw (toggled_all-least q ps qs above_ps) at (toggled_all_rising ps (q ∷ qs) (above_qs, rising)) in
     all.0
 
 -- the first number of the left is less than that of the right
@@ -38,7 +38,7 @@ left_first : (p q : ℕ) (ps qs : List ℕ) → IsRising (p ∷ ps) → IsRising
 unfolding toggled_all
 left_first p q ps qs left right less =
     toggled-least p (toggled_all ps (q ∷ qs))
-      (toggled_all-above p ps (q ∷ qs) left.0 (less, AllAbove-lower p q qs less right.0) right)
+    (toggled_all-above p ps (q ∷ qs) left.0 (less, AllAbove-lower p q qs less right.0) right)
 
 right_first : (p q : ℕ) (ps qs : List ℕ) → IsRising (p ∷ ps) → q < p
     → toggled_all (p ∷ ps) (q ∷ qs) ≡ q ∷ toggled_all (p ∷ ps) qs
@@ -74,10 +74,10 @@ pub merge_left : (left right sum sum' total : List ℕ) (i j : ℕ) → IsRising
     → sum' ++ toggled_all (drop (i + 1) left) (drop j right) ≡ total
 merge_left left right sum sum' total i j l r il jr less pushed same =
     let step : toggled_all (drop i left) (drop j right)
-        ≡ get_or left i 0 ∷ toggled_all (drop (i + 1) left) (drop j right) =
-      rw (drop_at left i il, drop_at right j jr)
-        (left_first (get_or left i 0) (get_or right j 0) (drop (i + 1) left) (drop (j + 1) right)
-          (rising_from left i il l) (rising_from right j jr r) less) in
+    ≡ get_or left i 0 ∷ toggled_all (drop (i + 1) left) (drop j right) =
+    rw (drop_at left i il, drop_at right j jr)
+    (left_first (get_or left i 0) (get_or right j 0) (drop (i + 1) left) (drop (j + 1) right)
+    (rising_from left i il l) (rising_from right j jr r) less) in
     rw (pushed, append_assoc) (rw step at same)
 
 pub merge_right : (left right sum sum' total : List ℕ) (i j : ℕ) → IsRising left
@@ -87,10 +87,10 @@ pub merge_right : (left right sum sum' total : List ℕ) (i j : ℕ) → IsRisin
     → sum' ++ toggled_all (drop i left) (drop (j + 1) right) ≡ total
 merge_right left right sum sum' total i j l il jr less pushed same =
     let step : toggled_all (drop i left) (drop j right)
-        ≡ get_or right j 0 ∷ toggled_all (drop i left) (drop (j + 1) right) =
-      rw (drop_at left i il, drop_at right j jr)
-        (right_first (get_or left i 0) (get_or right j 0) (drop (i + 1) left) (drop (j + 1) right)
-          (rising_from left i il l) less) in
+    ≡ get_or right j 0 ∷ toggled_all (drop i left) (drop (j + 1) right) =
+    rw (drop_at left i il, drop_at right j jr)
+    (right_first (get_or left i 0) (get_or right j 0) (drop (i + 1) left) (drop (j + 1) right)
+    (rising_from left i il l) less) in
     rw (pushed, append_assoc) (rw step at same)
 
 pub merge_both : (left right : List ℕ) (i j : ℕ) → IsRising left
@@ -98,7 +98,7 @@ pub merge_both : (left right : List ℕ) (i j : ℕ) → IsRising left
     → toggled_all (drop i left) (drop j right) ≡ toggled_all (drop (i + 1) left) (drop (j + 1) right)
 merge_both left right i j l il jr same =
     rw (drop_at left i il, drop_at right j jr, ← same)
-      (both_first (get_or left i 0) (drop (i + 1) left) (drop (j + 1) right) (rising_from left i il l))
+    (both_first (get_or left i 0) (drop (i + 1) left) (drop (j + 1) right) (rising_from left i il l))
 
 -- what is left of one list goes behind, where nothing is left of the other
 pub merge_end : (left right sum total : List ℕ) (i j : ℕ) → IsRising left
@@ -109,4 +109,4 @@ merge_end left right sum total i j l (inl none) same =
     rw (drop_all i left none, append-nil sum) (rw (drop_all i left none, nil-toggled_all) at same)
 merge_end left right sum total i j l (inr none) same =
     rw (drop_all j right none, append-nil)
-      (rw (drop_all j right none, toggled_all-nil (drop i left) (rising_drop i left l)) at same)
+    (rw (drop_all j right none, toggled_all-nil (drop i left) (rising_drop i left l)) at same)

@@ -59,16 +59,19 @@ toggled-new q (p ∷ ps) (suc i) le below above =
     let more : p < q = below 0 (omega arith) in
     let not_below = le-ltb q p (omega arith) in
     let other = ne_eqb q p (λ e. absurd (omega arith)) in
-    rw (not_below, other,
-        toggled-new q ps i (omega arith) (λ k l. below (suc k) (omega arith))
-          (λ k l m. above (suc k) (omega arith) (omega arith))) refl
+    rw (
+      not_below,
+      other,
+      toggled-new q ps i (omega arith) (λ k l. below (suc k) (omega arith))
+          (λ k l m. above (suc k) (omega arith) (omega arith)),
+    ) refl
 
 toggled_by : (q : ℕ) (ps : List ℕ) (r : Result ℕ ℕ) → IsRising ps
     → MatchResult r (λ i. (i < length ps) × (get_or ps i 0 ≡ q))
-        (λ i. (i ≤ length ps) × ((k : ℕ) → k < i → get_or ps k 0 < q)
-          × ((k : ℕ) → i ≤ k → k < length ps → q < get_or ps k 0))
+    (λ i. (i ≤ length ps) × ((k : ℕ) → k < i → get_or ps k 0 < q)
+    × ((k : ℕ) → i ≤ k → k < length ps → q < get_or ps k 0))
     → MatchResult r (λ i. (i < length ps) × (toggled q ps ≡ remove ps i))
-        (λ i. (i ≤ length ps) × (toggled q ps ≡ insert ps i q))
+    (λ i. (i ≤ length ps) × (toggled q ps ≡ insert ps i q))
 toggled_by q ps (Ok i) rising found = (found.0, toggled-member q ps i rising found.0 found.1)
 toggled_by q ps (Err i) rising found = (found.0, toggled-new q ps i found.0 found.1 found.2)
 
@@ -76,6 +79,6 @@ toggled_by q ps (Err i) rising found = (found.0, toggled-new q ps i found.0 foun
 pub toggled-searched : (q : ℕ) (ps : List ℕ) (r : Result ℕ ℕ) → IsRising ps
     → IsBinarySearchResult (λ p. nat_cmp p q) ps r
     → MatchResult r (λ i. (i < length ps) × (toggled q ps ≡ remove ps i))
-        (λ i. (i ≤ length ps) × (toggled q ps ≡ insert ps i q))
+    (λ i. (i ≤ length ps) × (toggled q ps ≡ insert ps i q))
 toggled-searched q ps r rising found =
     toggled_by q ps r rising (searched ps q r found (λ i j le lt. rising_at ps i j rising le lt))

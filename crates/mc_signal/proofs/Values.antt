@@ -61,7 +61,7 @@ pub parity-replaced_sum : (q : ℕ) (ps qs : List ℕ) (o : Bits) → IsRising p
     → parity (toggled_all (toggled q ps) qs) o ≡ parity ps (replaced o q (parity qs o))
 parity-replaced_sum q ps qs o rising member =
     rw (parity-toggled_all (toggled q ps) qs o, parity-toggled q ps o, parity-replaced q (parity qs o) ps o rising)
-      (substituted (o q) (parity ps o) (parity qs o) (is_member ps q) member)
+    (substituted (o q) (parity ps o) (parity qs o) (is_member ps q) member)
 
 -- the outcome of a number that is no member does not matter
 pub parity-lacks : (q : ℕ) (b : Bool) (ps : List ℕ) (o : Bits) → is_member ps q ≡ false
@@ -101,7 +101,7 @@ value-lacks q b ps o lacks = sym (parity-lacks q b ps o lacks)
 -- a signal in which a member is replaced by another signal
 pub signal-replaced : (q : ℕ) (ps qs new : List ℕ) → is_member ps q ≡ true → new ≡ toggled_all (toggled q ps) qs
     → set_of new
-      ≡ (if is_member ps q then signal_sum (signal_sum (signal_of q) (set_of ps)) (set_of qs) else set_of ps)
+    ≡ (if is_member ps q then signal_sum (signal_sum (signal_of q) (set_of ps)) (set_of qs) else set_of ps)
 unfolding toggled_all
 signal-replaced q ps qs new member same = rw (same, member) refl
 

@@ -14,9 +14,12 @@ fn set_of(alloc: Global, members: &[u16]) -> Result<QSet, Memory> {
 }
 
 fn lists(set: &QSet, members: &[u16]) -> bool {
-    let mut same = set.len() == members.len();
-    for q in members {
-        same &= set.has(*q);
+    if set.len() != members.len() {
+        return false;
+    }
+    let mut same = true;
+    for i in 0..members.len() {
+        same &= set.get(i) == members[i];
     }
     same
 }
@@ -25,7 +28,7 @@ fn lists(set: &QSet, members: &[u16]) -> bool {
 fn adds_and_replaces(rt: HostRuntime) -> Result<(), Fail> {
     let alloc = rt.alloc();
     let mut signal = Signal::of(set_of(alloc, &[2, 1])?);
-    assert_eq!(rt; (signal.members().get(0), signal.members().get(1)), (1, 2));
+    assert!(rt; lists(signal.members(), &[1, 2]));
     signal.replace(2, &Signal::of(set_of(alloc, &[2, 5])?))?;
     assert!(rt; lists(signal.members(), &[1, 2, 5]));
     signal.add(&Signal::of(set_of(alloc, &[1])?))?;
@@ -39,10 +42,13 @@ fn adds_and_replaces(rt: HostRuntime) -> Result<(), Fail> {
 #[test]
 fn sums_outcomes(rt: HostRuntime) -> Result<(), Fail> {
     let alloc = rt.alloc();
-    let mut outcomes = Outcomes::new(alloc, 8)?;
+    let mut outcomes = Outcomes::new(alloc, 256)?;
     outcomes.set(5, true);
     assert!(rt; outcomes.get(5) && !outcomes.get(2));
     let members = set_of(alloc, &[2, 5])?;
     assert!(rt; members.has(5) && !members.has(300) && members.copy()?.len() == 2);
+    let signal = Signal::of(members);
+    let _ = signal.members().len();
+    assert!(rt; signal.value(&outcomes));
     Ok(())
 }

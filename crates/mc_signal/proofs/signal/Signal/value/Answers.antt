@@ -6,4 +6,4 @@ use Rattle.mc_signal.proofs.signal.Signal.value.Goals as goal
 pub returns : goal.returns
 returns c =
     rw (c.parity_of.ensures, c.as_slice.ensures.members, ← c.self.view_is)
-      (sym (value-members c.self.inside.members (bits_of c.args.outcomes.now)))
+    (sym (value-members c.self.inside.members (bits_of c.args.outcomes.now)))
