@@ -3,13 +3,11 @@ use Rattle.std.proofs.Common.{◌≡◌, ℕ, ◌+◌, ◌-◌, ◌<◌, ◌≤�
 use Rattle.std.specs.List.{prefix_len}
 use Rattle.std.proofs.lemmas.List.{length-take, length-drop, take_all, drop_all, drop-drop}
 use Rattle.mc_lex.specs.declared.token.Token.{Token}
-use Rattle.mc_lex.specs.declared.token.Token.TheVariants.{Bad}
 use Rattle.mc_lex.specs.declared.part.Part.{Part}
 use Rattle.mc_lex.specs.Bytes.{is_hash, is_blank, is_word_byte}
 use Rattle.mc_lex.specs.Lines.{Item, word, bad, tokens, with_items, lines_from}
-use Rattle.mc_lex.specs.Given.{item_of}
 use Rattle.mc_lex.specs.First.{starts_blank}
-use Rattle.mc_lex.specs.Parts.{tokens_in, IsFirst}
+use Rattle.mc_lex.specs.Parts.{IsFirst}
 use Rattle.mc_lex.proofs.Steps.{feed_len, parts-first, parts-last, tokens-blanks, blanks-stop, tokens-word, tokens-bad}
 
 -- behind the first element

@@ -2,3 +2,4 @@ pub mod Steps
 pub mod Firsts
 pub mod Spots
 pub mod Order
+pub mod Ends

@@ -1,5 +1,5 @@
 -- The tokens of a text stand in order.
-use Rattle.std.proofs.Common.{◌≡◌, ℕ, zero, suc, ◌+◌, ◌<◌, ◌≤◌, List, [], ◌∷◌, Bool, true, false, length, take, drop, refl, arith}
+use Rattle.std.proofs.Common.{◌≡◌, ℕ, zero, suc, ◌+◌, ◌<◌, ◌≤◌, List, [], ◌∷◌, Bool, true, false, length, drop, refl, arith}
 use Rattle.std.specs.List.{prefix_len}
 use Rattle.std.proofs.lemmas.List.{length-drop}
 use Rattle.std.proofs.lemmas.List.Folds.{length-prefix_len}
@@ -44,7 +44,8 @@ tokens_below line (suc fuel) column (b ∷ bs) le =
     in_front line fuel column b bs (omega arith) (tokens_below line fuel) (is_blank b)
     (is_word_byte b) refl refl
 
-tokens_in_order : (line column : ℕ) (bytes : List ℕ) → InOrder line column (tokens line column bytes)
+tokens_in_order : (line column : ℕ) (bytes : List ℕ)
+    → InOrder line column (tokens line column bytes)
 tokens_in_order line column bytes = tokens_below line (length bytes) column bytes (omega arith)
 
 rising_later : (n : ℕ) (lines : List Line) → RisingFrom (n + 1) lines → RisingFrom n lines

@@ -1,11 +1,11 @@
 -- Each token of a text stands at its place.
 use Rattle.std.proofs.Common.{◌≡◌, ℕ, zero, suc, ◌+◌, ◌-◌, ◌<◌, ◌≤◌, List, [], ◌∷◌, ◌++◌, Bool, true, false, not, length, take, drop, All, refl, sym, ap, ◌∙◌, arith, append_assoc, length-append, ◌⊎◌, inl, inr, subst}
-use Rattle.std.specs.List.{prefix_len, list_all, sum_by, fold}
+use Rattle.std.specs.List.{prefix_len, list_all, sum_by}
 use Rattle.std.proofs.lemmas.Bool.Decides.{nat_tests}
-use Rattle.std.proofs.lemmas.List.{length-take, length-drop, take-append-drop, append-nil}
+use Rattle.std.proofs.lemmas.List.{length-drop, take-append-drop, append-nil}
 use Rattle.std.proofs.lemmas.List.Elements.{All-nil, All-cons, All-weaker}
 use Rattle.std.proofs.lemmas.List.Folds.{length-prefix_len}
-use Rattle.std.proofs.lemmas.List.Sums.{fold-append, sum_by-cons, take_while-cons}
+use Rattle.std.proofs.lemmas.List.Sums.{fold-append, sum_by-cons}
 use Rattle.mc_lex.specs.Bytes.{is_feed, is_hash, is_blank, is_word_byte}
 use Rattle.mc_lex.specs.Lines.{Item, word, bad, Line, starts_word, tokens, visible, parts_of, onto_first, line_of, with_items, numbered, lines_of}
 use Rattle.mc_lex.specs.Places.{offset, IsSlice, ends_word, IsRun, IsStray, IsAt, WordsAreSlices}
@@ -285,7 +285,7 @@ some_step : (b : ℕ) (bs : List ℕ) (t : Bool) → is_feed b ≡ t → 0 < len
 some_step b bs true e = rw e (omega arith)
 some_step b bs false e = rw e (onto_some b (parts_of bs))
 
-some_parts : (text : List ℕ) → 0 < length (parts_of text)
+pub some_parts : (text : List ℕ) → 0 < length (parts_of text)
 some_parts [] = omega arith
 some_parts (b ∷ bs) = some_step b bs (is_feed b) refl
 
@@ -386,7 +386,8 @@ first_stands n part parts =
     All-weaker (StandsIn n 1 part) (StandsFrom n (part ∷ parts)) (from_first n part parts)
     (tokens n 1 (visible part)) (line_stands n part)
 
-numbered_stand : (n : ℕ) (parts : List (List ℕ)) → LinesStand (StandsFrom n parts) (numbered n parts)
+numbered_stand : (n : ℕ) (parts : List (List ℕ))
+    → LinesStand (StandsFrom n parts) (numbered n parts)
 numbered_stand n [] = All-nil (λ (line : Line). All (StandsFrom n []) line.items)
 numbered_stand n (part ∷ []) =
     with_stand (StandsFrom n (part ∷ [])) n (tokens n 1 (visible part)) []

@@ -3,7 +3,7 @@ use Rattle.std.proofs.Common.{◌≡◌, ℕ, suc, ◌+◌, ◌<◌, ◌≤◌, 
 use Rattle.std.specs.List.{prefix_len}
 use Rattle.std.proofs.lemmas.Bool.Decides.{nat_tests}
 use Rattle.mc_lex.specs.Bytes.{is_feed, is_blank, is_word_byte}
-use Rattle.mc_lex.specs.Lines.{Item, word, bad, starts_word, tokens, parts_of}
+use Rattle.mc_lex.specs.Lines.{word, bad, starts_word, tokens, parts_of}
 use Rattle.mc_lex.specs.First.{starts_blank}
 
 abbrev pub feed_len : List ℕ → ℕ

@@ -1,5 +1,5 @@
 -- The first line of a text, and the first token of a part of a line.
-use Rattle.std.specs.Prelude.{◌≡◌, ℕ, ◌+◌, ◌<◌, ◌≤◌, List, [], ◌∷◌, length, Option, None, Some}
+use Rattle.std.specs.Prelude.{◌≡◌, ℕ, ◌+◌, ◌<◌, ◌≤◌, List, ◌∷◌, length, Some}
 use Rattle.mc_lex.specs.declared.token.Token.{Token}
 use Rattle.mc_lex.specs.declared.part.Part.{Part}
 use Rattle.mc_lex.specs.Lines.{Item, tokens, past_item, line_of, lines_from}

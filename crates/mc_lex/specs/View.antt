@@ -5,7 +5,7 @@ use Rattle.mc_lex.specs.Lines.{past_items, lines_from, end_of}
 use Rattle.mc_lex.specs.Left.{Left, before}
 use Rattle.mc_lex.specs.Parts.{tokens_in}
 
--- `current` is left of the current line, and `after`, from the line of this number on, stands behind
+-- `current` is left of the current line, and `after` stands behind, from the line of this number on
 abbrev pub left_of : List ℕ → Option Part → List ℕ → ℕ → Left
 left_of text None after number = before (lines_from number after) (end_of text)
 left_of text (Some part) after number = record {

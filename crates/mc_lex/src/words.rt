@@ -9,8 +9,8 @@ use crate::part::{Part, end_of_text, find_line, first_token};
 use crate::token::Token;
 use std::marker::Model;
 
-/// Goes through the tokens of a text, line by line, and copies none of them. A contract sees what is
-/// left of the text.
+/// Goes through the tokens of a text, line by line, and copies none of them. A contract sees what
+/// is left of the text.
 #[derive(Drop)]
 pub struct Words<'a> {
     text: &'a [u8],

@@ -1,4 +1,4 @@
-use Rattle.std.proofs.Common.{◌≡◌, ◌<◌, ◌≤◌, sym, ◌∙◌, refl, arith, length}
+use Rattle.std.proofs.Common.{◌<◌, ◌≤◌, sym, ◌∙◌, refl, arith, length}
 use Rattle.std.specs.List.{prefix_len}
 use Rattle.mc_lex.specs.Bytes.{is_blank}
 use Rattle.mc_lex.proofs.Firsts.{tokens_some, tokens_none}

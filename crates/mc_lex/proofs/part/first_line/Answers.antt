@@ -1,4 +1,4 @@
-use Rattle.std.proofs.Common.{◌≡◌, ◌∙◌, ap, take, arith}
+use Rattle.std.proofs.Common.{◌∙◌, ap, take, arith}
 use Rattle.mc_lex.proofs.Firsts.{part_last, part_first}
 use Rattle.mc_lex.proofs.part.first_line.Goals as goal
 

@@ -1,5 +1,4 @@
-use Rattle.std.proofs.Common.{◌≡◌, ◌∙◌, false, refl}
-use Rattle.mc_lex.specs.First.{starts_blank}
+use Rattle.std.proofs.Common.{◌∙◌, refl}
 use Rattle.mc_lex.proofs.Steps.{blanks-stop, tokens-blanks}
 use Rattle.mc_lex.proofs.Firsts.{none_later, some_later, first_later}
 use Rattle.mc_lex.proofs.part.first_token.Goals as goal

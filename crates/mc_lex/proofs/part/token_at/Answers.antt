@@ -1,6 +1,6 @@
-use Rattle.std.proofs.Common.{◌≡◌, sym, ◌∙◌, refl, ap}
+use Rattle.std.proofs.Common.{sym, ◌∙◌, refl}
 use Rattle.mc_lex.proofs.Firsts.{tokens-first_bad, tokens-first_word}
-use Rattle.mc_lex.specs.Lines.{Item, word, bad}
+use Rattle.mc_lex.specs.Lines.{word, bad}
 use Rattle.mc_lex.proofs.part.token_at.Goals as goal
 
 pub returns-then-not-is_word_byte-clause-first : goal.returns-then-not-is_word_byte-clause-first

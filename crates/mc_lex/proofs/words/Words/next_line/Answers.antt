@@ -1,4 +1,4 @@
-use Rattle.std.proofs.Common.{◌≤◌, arith}
+use Rattle.std.proofs.Common.{arith}
 use Rattle.mc_lex.proofs.words.Words.next_line.Goals as goal
 
 pub invariant_of-self : goal.invariant_of-self
