@@ -1,0 +1,9 @@
+//! The standard form of patterns, and the rewriting of their commands.
+#![tactic(auto)]
+
+mod laws;
+
+pub use laws::{
+    derivations_keep_patterns, standard_is_alike, standard_is_standard, step_is_alike,
+    steps_lead_to_standard,
+};
