@@ -3,3 +3,4 @@ pub mod Firsts
 pub mod Spots
 pub mod Order
 pub mod Ends
+pub mod Further
