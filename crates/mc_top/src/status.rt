@@ -3,6 +3,8 @@
 ghost use Rattle.std.specs.Prelude.{◌≡◌};
 ghost use Rattle.mc_top.specs.Status.{exit_of};
 
+use mc_lex::TextEnd;
+
 /// How a run of the command ended.
 #[derive(Clone, Copy, Debug, PartialEq, Eq)]
 pub enum Status {
@@ -23,6 +25,19 @@ pub enum Status {
 }
 
 impl Status {
+    ghost use Rattle.mc_top.specs.Ends.{status_by_end};
+
+    /// The status of a text that is refused or passes a limit, or for which memory ran out.
+    pub(crate) fn from_end(end: TextEnd) -> Status
+        ensures { result ≡ status_by_end end }
+    {
+        match end {
+            TextEnd::Refused { code, line, column } => Status::Refused { code, line, column },
+            TextEnd::Limit { which, found } => Status::Limit { which, found },
+            TextEnd::Memory => Status::Memory,
+        }
+    }
+
     /// The number with which the program ends.
     pub fn exit(&self) -> u8
         ensures { result ≡ exit_of self.now }
