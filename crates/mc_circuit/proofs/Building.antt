@@ -1,5 +1,5 @@
 -- What builders of circuits keep.
-use Rattle.std.proofs.Common.{◌≡◌, ℕ, ◌+◌, ◌≤◌, ◌<◌, ◌↔◌, Bool, true, false, not, ◌&&◌, nat_lt, nat_eq, List, [], ◌∷◌, ◌++◌, All, length, take, replicate, slice_index_or, Option, Some, None, cond, sym, ◌∙◌, subst, refl, ap, arith, length-append}
+use Rattle.std.proofs.Common.{◌≡◌, ℕ, ◌≤◌, ◌<◌, ◌↔◌, Bool, true, false, nat_lt, nat_eq, List, [], ◌∷◌, ◌++◌, length, take, replicate, slice_index_or, None, sym, ◌∙◌, subst, refl, arith, length-append}
 use Rattle.std.proofs.lemmas.Bool.{ltb-true, eq-eqb, true≢false}
 use Rattle.std.proofs.lemmas.List.{length-take-le, get_or-take, get_or-replicate}
 use Rattle.mc_model.specs.Names.{Name, AreNames}
@@ -71,7 +71,7 @@ each_due n qs few =
     let due = take n (replicate 256 true) in
     let long : length due ≡ n = length-take-le n (replicate 256 true) few in
     let all = λ (q : ℕ) (lt : q < n).
-        get_or-take n (replicate 256 true) q false lt ∙ get_or-replicate 256 q true false (omega arith) in
+    get_or-take n (replicate 256 true) q false lt ∙ get_or-replicate 256 q true false (omega arith) in
     rw long (
       ListsOnce-same n (λ q. slice_index_or due q false) (λ v. true) qs all,
       ListsOnce-same n (λ v. true) (λ q. slice_index_or due q false) qs (λ q lt. sym (all q lt)),

@@ -61,11 +61,7 @@ fn rule_of<const H: usize>(wires: u16, gate: &Gate<H>) -> Option<u8>
     match *gate {
         Gate::J { wire, angle } => {
             let _steps = angle.steps();
-            if wire < wires {
-                None
-            } else {
-                Some(1)
-            }
+            if wire < wires { None } else { Some(1) }
         }
         Gate::Cz { a, b } => {
             if !(a < wires && b < wires) {
@@ -149,7 +145,11 @@ impl<const H: usize> CircuitBuilder<H> {
 
     /// The circuit with these outputs. `Rule(3)` comes where a wire does not stand there once or another number does.
     /// A refusal hands the builder back as it was.
-    pub fn finish(self, alloc: Global, out: &[u16]) -> Result<Circuit<H>, (CircuitBuilder<H>, CircuitEnd)>
+    pub fn finish(
+        self,
+        alloc: Global,
+        out: &[u16],
+    ) -> Result<Circuit<H>, (CircuitBuilder<H>, CircuitEnd)>
         ensures circuit { IfOk result (λ circuit. circuit ≡ record self.entry { outputs = out.now }) }
         ensures lists { OnOk result (ListsOnce (length self.entry.names) (λ v. true) out.now) }
         ensures rule { IfErr result (λ refused. (refused.1 ≡ CircuitEnd.Rule 3) ↔ ¬ (ListsOnce (length self.entry.names) (λ v. true) out.now)) }

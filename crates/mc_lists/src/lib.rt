@@ -2,5 +2,7 @@
 #![tactic(auto)]
 
 mod once;
+#[cfg(test)]
+mod tests;
 
 pub use once::lists_once;

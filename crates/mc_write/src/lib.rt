@@ -2,6 +2,8 @@
 #![tactic(auto)]
 
 mod names;
+#[cfg(test)]
+mod tests;
 mod words;
 
 pub use names::{add_name, add_names, add_names_between};

@@ -28,7 +28,12 @@ pub fn add_names(text: &mut Vec<u8>, names: &Names, numbers: &[u16]) -> Result<(
 }
 
 /// Writes the names from one number to before another as further words of a line.
-pub fn add_names_between(text: &mut Vec<u8>, names: &Names, from: u16, to: u16) -> Result<(), Memory>
+pub fn add_names_between(
+    text: &mut Vec<u8>,
+    names: &Names,
+    from: u16,
+    to: u16,
+) -> Result<(), Memory>
     requires order { from ≤ to }
     requires within { to ≤ length names.now }
     ensures { OnOk result (text.new.items ≡ text.old.items ++ words_behind (take (to - from) (drop from names.now))) }
