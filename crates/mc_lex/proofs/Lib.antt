@@ -1,0 +1,6 @@
+pub mod Steps
+pub mod Firsts
+pub mod Spots
+pub mod Order
+pub mod Ends
+pub mod Further

@@ -1,0 +1,9 @@
+pub mod Bytes
+pub mod Lines
+pub mod Places
+pub mod Left
+pub mod Given
+pub mod First
+pub mod Parts
+pub mod View
+pub mod Kinds

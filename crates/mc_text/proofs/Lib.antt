@@ -1,0 +1,6 @@
+pub mod Ends
+pub mod Going
+pub mod Done
+pub mod Heading
+pub mod Numbers
+pub mod Kept

@@ -1,0 +1,9 @@
+pub mod Heads
+pub mod Faults
+pub mod Judged
+pub mod Stops
+pub mod Points
+pub mod Takes
+pub mod Rules
+pub mod Lists
+pub mod Headers
