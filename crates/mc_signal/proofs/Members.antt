@@ -58,9 +58,11 @@ member_toggled_by q p ps k false false e f rising rest =
 pub is_member-toggled : (q : ℕ) (ps : List ℕ) (k : ℕ) → IsRising ps
     → is_member (toggled q ps) k ≡ (is_member ps k ⊻ nat_eq k q)
 unfolding toggled
-is_member-toggled q [] k rising = or_xor (nat_eq k q) false (λ e. refl) ∙ moved_last (nat_eq k q) false
+is_member-toggled q [] k rising =
+    or_xor (nat_eq k q) false (λ e. refl) ∙ moved_last (nat_eq k q) false
 is_member-toggled q (p ∷ ps) k rising =
-    member_toggled_by q p ps k (nat_lt q p) (nat_eq q p) refl refl rising (is_member-toggled q ps k rising.1)
+    member_toggled_by q p ps k (nat_lt q p) (nat_eq q p) refl refl rising
+    (is_member-toggled q ps k rising.1)
 
 pub is_member-toggled_all : (ps qs : List ℕ) (k : ℕ) → IsRising ps → IsRising qs
     → is_member (toggled_all ps qs) k ≡ (is_member ps k ⊻ is_member qs k)
@@ -74,14 +76,16 @@ is_member-toggled_all (p ∷ ps) qs k left right =
     )
     (first_last (nat_eq k p) (is_member ps k) (is_member qs k))
 
-small_by : (q : ℕ) (ps : List ℕ) → ((i : ℕ) → i < length ps → get_or ps i 0 < 256) → is_member ps q ≡ true → q < 256
+small_by : (q : ℕ) (ps : List ℕ) → ((i : ℕ) → i < length ps → get_or ps i 0 < 256)
+    → is_member ps q ≡ true → q < 256
 small_by q [] small member = absurd (cc member)
 small_by q (p ∷ ps) small member = elim (cases_Bool (nat_eq q p)) [
   | inl e ↦ let same = eqb-true q p e in let first = small 0 (omega arith) in omega arith
   | inr e ↦ small_by q ps (λ i lt. small (suc i) (omega arith)) (rw e at member)
 ]
 
-pub is_member-small : (q : ℕ) (ps : List ℕ) → All (λ p. p < 256) ps → is_member ps q ≡ true → q < 256
+pub is_member-small : (q : ℕ) (ps : List ℕ) → All (λ p. p < 256) ps
+    → is_member ps q ≡ true → q < 256
 is_member-small q ps small member = small_by q ps (λ i lt. small i 0 lt) member
 
 pub toggled_all-single : (q : ℕ) (ps : List ℕ) → toggled_all (q ∷ []) ps ≡ toggled q ps

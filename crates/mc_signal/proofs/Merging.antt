@@ -16,7 +16,8 @@ toggled-first : (q : ℕ) (ps : List ℕ) → toggled q (q ∷ ps) ≡ ps
 unfolding toggled
 toggled-first q ps = rw (le-ltb q q (omega arith), eq-eqb q q refl) refl
 
-toggled_all-least : (q : ℕ) (ps qs : List ℕ) → AllAbove q ps → toggled_all ps (q ∷ qs) ≡ q ∷ toggled_all ps qs
+toggled_all-least : (q : ℕ) (ps qs : List ℕ) → AllAbove q ps
+    → toggled_all ps (q ∷ qs) ≡ q ∷ toggled_all ps qs
 unfolding toggled toggled_all
 toggled_all-least q [] qs above = refl
 toggled_all-least q (p ∷ ps) qs above =
@@ -29,7 +30,8 @@ toggled_all-above : (q : ℕ) (ps qs : List ℕ) → AllAbove q ps → AllAbove 
     → AllAbove q (toggled_all ps qs)
 toggled_all-above q ps qs above_ps above_qs rising =
     let all : IsRising (q ∷ toggled_all ps qs) =
-    rw (toggled_all-least q ps qs above_ps) at (toggled_all_rising ps (q ∷ qs) (above_qs, rising)) in
+    rw (toggled_all-least q ps qs above_ps)
+    at (toggled_all_rising ps (q ∷ qs) (above_qs, rising)) in
     all.0
 
 -- the first number of the left is less than that of the right
@@ -42,7 +44,8 @@ left_first p q ps qs left right less =
 
 right_first : (p q : ℕ) (ps qs : List ℕ) → IsRising (p ∷ ps) → q < p
     → toggled_all (p ∷ ps) (q ∷ qs) ≡ q ∷ toggled_all (p ∷ ps) qs
-right_first p q ps qs left less = toggled_all-least q (p ∷ ps) qs (less, AllAbove-lower q p ps less left.0)
+right_first p q ps qs left less =
+    toggled_all-least q (p ∷ ps) qs (less, AllAbove-lower q p ps less left.0)
 
 both_first : (p : ℕ) (ps qs : List ℕ) → IsRising (p ∷ ps)
     → toggled_all (p ∷ ps) (p ∷ qs) ≡ toggled_all ps qs
@@ -95,10 +98,12 @@ merge_right left right sum sum' total i j l il jr less pushed same =
 
 pub merge_both : (left right : List ℕ) (i j : ℕ) → IsRising left
     → i < length left → j < length right → get_or left i 0 ≡ get_or right j 0
-    → toggled_all (drop i left) (drop j right) ≡ toggled_all (drop (i + 1) left) (drop (j + 1) right)
+    → toggled_all (drop i left) (drop j right)
+    ≡ toggled_all (drop (i + 1) left) (drop (j + 1) right)
 merge_both left right i j l il jr same =
     rw (drop_at left i il, drop_at right j jr, ← same)
-    (both_first (get_or left i 0) (drop (i + 1) left) (drop (j + 1) right) (rising_from left i il l))
+    (both_first (get_or left i 0) (drop (i + 1) left) (drop (j + 1) right)
+    (rising_from left i il l))
 
 -- what is left of one list goes behind, where nothing is left of the other
 pub merge_end : (left right sum total : List ℕ) (i j : ℕ) → IsRising left

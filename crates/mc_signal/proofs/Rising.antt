@@ -8,21 +8,24 @@ use Rattle.mc_model.specs.Signals.{toggled, AllAbove, IsRising}
 
 pub AllAbove-lower : (p q : ℕ) (ps : List ℕ) → p < q → AllAbove q ps → AllAbove p ps
 AllAbove-lower p q [] lt above = tt
-AllAbove-lower p q (r ∷ ps) lt above = (let a = above.0 in omega arith, AllAbove-lower p q ps lt above.1)
+AllAbove-lower p q (r ∷ ps) lt above =
+    (let a = above.0 in omega arith, AllAbove-lower p q ps lt above.1)
 
 pub AllAbove-at : (q : ℕ) (ps : List ℕ) (k : ℕ) → AllAbove q ps → k < length ps → q < get_or ps k 0
 AllAbove-at q [] k above lt = absurd (omega arith)
 AllAbove-at q (p ∷ ps) zero above lt = above.0
 AllAbove-at q (p ∷ ps) (suc k) above lt = AllAbove-at q ps k above.1 (omega arith)
 
-pub rising_at : (ps : List ℕ) (i j : ℕ) → IsRising ps → i ≤ j → j < length ps → get_or ps i 0 ≤ get_or ps j 0
+pub rising_at : (ps : List ℕ) (i j : ℕ) → IsRising ps → i ≤ j → j < length ps
+    → get_or ps i 0 ≤ get_or ps j 0
 rising_at [] i j rising le lt = absurd (omega arith)
 rising_at (p ∷ ps) zero zero rising le lt = omega arith
 rising_at (p ∷ ps) zero (suc j) rising le lt =
     let above = AllAbove-at p ps j rising.0 (omega arith) in
     omega arith
 rising_at (p ∷ ps) (suc i) zero rising le lt = absurd (omega arith)
-rising_at (p ∷ ps) (suc i) (suc j) rising le lt = rising_at ps i j rising.1 (omega arith) (omega arith)
+rising_at (p ∷ ps) (suc i) (suc j) rising le lt =
+    rising_at ps i j rising.1 (omega arith) (omega arith)
 
 pub rising_drop : (i : ℕ) (ps : List ℕ) → IsRising ps → IsRising (drop i ps)
 rising_drop zero ps rising = rising

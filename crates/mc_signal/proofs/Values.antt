@@ -22,7 +22,8 @@ parity-toggled_all ps qs o = value-sum (set_of ps) (set_of qs) o
 and_nothing : (b : Bool) → (b ⊻ false) ≡ b
 and_nothing b = grind arith
 
-pub parity-toggled : (q : ℕ) (ps : List ℕ) (o : Bits) → parity (toggled q ps) o ≡ (o q ⊻ parity ps o)
+pub parity-toggled : (q : ℕ) (ps : List ℕ) (o : Bits)
+    → parity (toggled q ps) o ≡ (o q ⊻ parity ps o)
 unfolding toggled_all parity
 parity-toggled q ps o =
     parity-toggled_all (q ∷ []) ps o ∙ ap (λ (b : Bool). b ⊻ parity ps o) (and_nothing (o q))
@@ -33,7 +34,8 @@ taken_out b c n m = grind arith
 left_in : (a n m d : Bool) → (a ⊻ (n ⊻ (m && d))) ≡ ((a ⊻ n) ⊻ ((false || m) && d))
 left_in a n m d = grind arith
 
-parity_by : (q : ℕ) (b : Bool) (p : ℕ) (ps : List ℕ) (o : Bits) (t : Bool) → nat_eq p q ≡ t → AllAbove p ps
+parity_by : (q : ℕ) (b : Bool) (p : ℕ) (ps : List ℕ) (o : Bits) (t : Bool)
+    → nat_eq p q ≡ t → AllAbove p ps
     → parity ps (replaced o q b) ≡ (parity ps o ⊻ (is_member ps q && (o q ⊻ b)))
     → parity (p ∷ ps) (replaced o q b) ≡ (parity (p ∷ ps) o ⊻ (is_member (p ∷ ps) q && (o q ⊻ b)))
 unfolding parity
@@ -45,7 +47,7 @@ parity_by q b p ps o false e above rest =
     let other : nat_eq q p ≡ false = ne_eqb q p (λ f. absurd (eqb-false p q e (sym f))) in
     rw (e, rest, other) (left_in (o p) (parity ps o) (is_member ps q) (o q ⊻ b))
 
--- with a bit in the place of a member's outcome that outcome is taken out of the sum, and the bit is added
+-- with a bit in the place of a member's outcome, that outcome is taken out and the bit is added
 pub parity-replaced : (q : ℕ) (b : Bool) (ps : List ℕ) (o : Bits) → IsRising ps
     → parity ps (replaced o q b) ≡ (parity ps o ⊻ (is_member ps q && (o q ⊻ b)))
 unfolding parity
@@ -60,7 +62,11 @@ substituted a m n c e = grind arith
 pub parity-replaced_sum : (q : ℕ) (ps qs : List ℕ) (o : Bits) → IsRising ps → is_member ps q ≡ true
     → parity (toggled_all (toggled q ps) qs) o ≡ parity ps (replaced o q (parity qs o))
 parity-replaced_sum q ps qs o rising member =
-    rw (parity-toggled_all (toggled q ps) qs o, parity-toggled q ps o, parity-replaced q (parity qs o) ps o rising)
+    rw (
+      parity-toggled_all (toggled q ps) qs o,
+      parity-toggled q ps o,
+      parity-replaced q (parity qs o) ps o rising,
+    )
     (substituted (o q) (parity ps o) (parity qs o) (is_member ps q) member)
 
 -- the outcome of a number that is no member does not matter
@@ -77,11 +83,13 @@ added_next : (s g r : Bool) → (not (beq s g) ⊻ r) ≡ (s ⊻ (g ⊻ r))
 added_next s g r = grind arith
 
 -- the sum so far with one more outcome
-pub parity_step : (s g t : Bool) (ps : List ℕ) (i : ℕ) (o : Bits) → i < length ps → g ≡ o (get_or ps i 0)
+pub parity_step : (s g t : Bool) (ps : List ℕ) (i : ℕ) (o : Bits) → i < length ps
+    → g ≡ o (get_or ps i 0)
     → (s ⊻ parity (drop i ps) o) ≡ t → (not (beq s g) ⊻ parity (drop (i + 1) ps) o) ≡ t
 unfolding parity
 parity_step s g t ps i o lt read same =
-    rw (added_next s g (parity (drop (i + 1) ps) o), read, add-one i) (rw (drop-cons ps i 0 lt) at same)
+    rw (added_next s g (parity (drop (i + 1) ps) o), read, add-one i)
+    (rw (drop-cons ps i 0 lt) at same)
 
 pub parity_end : (s t : Bool) (ps : List ℕ) (i : ℕ) (o : Bits) → length ps ≤ i
     → (s ⊻ parity (drop i ps) o) ≡ t → s ≡ t
@@ -99,9 +107,11 @@ unfolding value
 value-lacks q b ps o lacks = sym (parity-lacks q b ps o lacks)
 
 -- a signal in which a member is replaced by another signal
-pub signal-replaced : (q : ℕ) (ps qs new : List ℕ) → is_member ps q ≡ true → new ≡ toggled_all (toggled q ps) qs
+pub signal-replaced : (q : ℕ) (ps qs new : List ℕ) → is_member ps q ≡ true
+    → new ≡ toggled_all (toggled q ps) qs
     → set_of new
-    ≡ (if is_member ps q then signal_sum (signal_sum (signal_of q) (set_of ps)) (set_of qs) else set_of ps)
+    ≡ (if is_member ps q then signal_sum (signal_sum (signal_of q) (set_of ps)) (set_of qs)
+    else set_of ps)
 unfolding toggled_all
 signal-replaced q ps qs new member same = rw (same, member) refl
 

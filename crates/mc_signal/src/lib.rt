@@ -1,8 +1,8 @@
-//! Signals: sets of measured qubits, which say by the sum of their outcomes whether a correction acts
-//! (Danos, Kashefi and Panangaden 2007).
+//! Signals: sets of measured qubits, which say by the sum of their outcomes whether a correction
+//! acts (Danos, Kashefi and Panangaden 2007).
 //!
-//! A set is seen as the rising list of its members, a signal as the model's record of members and constant,
-//! outcomes as a list of bits.
+//! A set is seen as the rising list of its members, a signal as the model's record of members and
+//! constant, outcomes as a list of bits.
 #![tactic(auto)]
 
 mod outcomes;

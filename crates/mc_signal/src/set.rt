@@ -42,7 +42,8 @@ fn place_of(members: &[u8], q: u8) -> Result<usize, usize>
     requires { IsRising members.now }
     ensures { MatchResult result
         (λ place. (place < length members.now) × (toggled q members.now ≡ remove members.now place))
-        (λ place. (place ≤ length members.now) × (toggled q members.now ≡ insert members.now place q)) }
+        (λ place. (place ≤ length members.now)
+        × (toggled q members.now ≡ insert members.now place q)) }
 {
     members.binary_search(&q)
 }
@@ -124,6 +125,7 @@ impl QSet {
         self.as_slice().len()
     }
 
+    /// Whether there are no members.
     pub fn is_empty(&self) -> bool
         ensures { IsTrue result ↔ (self.now ≡ []) }
     {
@@ -151,7 +153,8 @@ impl QSet {
     pub fn toggle(&mut self, q: u16) -> Result<(), Memory>
         requires { q < 256 }
         ensures ok { OnOk result (self.new ≡ toggled q self.old) }
-        ensures members { OnOk result ((p : ℕ) → is_member self.new p ≡ (is_member self.old p ⊻ nat_eq p q)) }
+        ensures members { OnOk result ((p : ℕ) →
+            is_member self.new p ≡ (is_member self.old p ⊻ nat_eq p q)) }
         ensures err { OnErr result (self.new ≡ self.old) }
     {
         let q = q as u8;
@@ -170,7 +173,8 @@ impl QSet {
     /// The numbers that are members of just one of two sets.
     pub(crate) fn sum(&self, other: &QSet) -> Result<QSet, Memory>
         ensures sum { IfOk result (λ sum. sum ≡ toggled_all self.now other.now) }
-        ensures members { IfOk result (λ sum. (q : ℕ) → is_member sum q ≡ (is_member self.now q ⊻ is_member other.now q)) }
+        ensures members { IfOk result (λ sum. (q : ℕ) →
+            is_member sum q ≡ (is_member self.now q ⊻ is_member other.now q)) }
     {
         let alloc = *self.members.allocator();
         match merged(alloc, self.members.as_slice(), other.members.as_slice()) {
@@ -183,7 +187,8 @@ impl QSet {
     pub(crate) fn replaced(&self, q: u16, by: &QSet) -> Result<QSet, Memory>
         requires { IsTrue (is_member self.now q) × (q < 256) }
         ensures set { IfOk result (λ set. set ≡ toggled_all (toggled q self.now) by.now) }
-        ensures parity { IfOk result (λ set. (o : Bits) → parity set o ≡ parity self.now (replaced o q (parity by.now o))) }
+        ensures parity { IfOk result (λ set. (o : Bits) →
+            parity set o ≡ parity self.now (replaced o q (parity by.now o))) }
     {
         // opens the set, whose members rise
         let _ = &self.members;

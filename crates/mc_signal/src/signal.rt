@@ -94,20 +94,24 @@ impl Signal {
     pub fn add(&mut self, other: &Signal) -> Result<(), Memory>
         ensures ok { OnOk result (self.new ≡ signal_sum self.old other.now) }
         ensures members { OnOk result ((q : ℕ) →
-            is_member self.new.members q ≡ (is_member self.old.members q ⊻ is_member other.now.members q)) }
+            is_member self.new.members q ≡
+            (is_member self.old.members q ⊻ is_member other.now.members q)) }
         ensures err { OnErr result (self.new ≡ self.old) }
     {
         self.members = self.members.sum(&other.members)?;
         Ok(())
     }
 
-    /// Puts a signal in the place of a qubit: where the qubit is a member, it is taken out and the signal is added.
+    /// Puts a signal in the place of a qubit: where the qubit is a member, it is taken out and the
+    /// signal is added, else nothing changes.
     pub fn replace(&mut self, q: u16, by: &Signal) -> Result<(), Memory>
         ensures ok { OnOk result (self.new ≡
-            (if is_member self.old.members q then signal_sum (signal_sum (signal_of q) self.old) by.now
+            (if is_member self.old.members q
+            then signal_sum (signal_sum (signal_of q) self.old) by.now
             else self.old)) }
-        // the value is that of the signal before, at outcomes where the qubit has the value of the other signal
-        ensures value { OnOk result ((o : Bits) → value self.new o ≡ value self.old (replaced o q (value by.now o))) }
+        // its value is that of the signal before, with the other's value as the qubit's outcome
+        ensures value { OnOk result ((o : Bits) →
+            value self.new o ≡ value self.old (replaced o q (value by.now o))) }
         ensures err { OnErr result (self.new ≡ self.old) }
     {
         if !self.members.has(q) {

@@ -15,5 +15,6 @@ digits-preserved c =
             number_of-push (take i word) (slice_index_or word i 0),
             ← c.digits.invariant.value,
           ) refl;
-      small = next_small i c.digits.sum (slice_index_or word i 0 - 48) c.digits.invariant.small digit;
+      small =
+          next_small i c.digits.sum (slice_index_or word i 0 - 48) c.digits.invariant.small digit;
     }

@@ -16,8 +16,10 @@ merge-preserved-in-Less c =
       within_left = omega arith;
       within_right = omega arith;
       same =
-          merge_left left right c.merge.sum.items c.push.new.members.items _ i j c.requires.left_rising
-          c.requires.right_rising c.merge-test.true c.if-j-right.true less c.in_ok-push-in-Less.ensures
+          merge_left left right c.merge.sum.items c.push.new.members.items _ i j
+          c.requires.left_rising
+          c.requires.right_rising c.merge-test.true c.if-j-right.true less
+          c.in_ok-push-in-Less.ensures
           c.merge.invariant.same;
     }
 
@@ -33,8 +35,10 @@ merge-preserved-in-Greater c =
       within_left = omega arith;
       within_right = omega arith;
       same =
-          merge_right left right c.merge.sum.items c.push-in-Greater.new.members.items _ i j c.requires.left_rising
-          c.merge-test.true c.if-j-right.true less c.in_ok-push-in-Greater.ensures c.merge.invariant.same;
+          merge_right left right c.merge.sum.items c.push-in-Greater.new.members.items _ i j
+          c.requires.left_rising
+          c.merge-test.true c.if-j-right.true less
+          c.in_ok-push-in-Greater.ensures c.merge.invariant.same;
     }
 
 pub merge-preserved : goal.merge-preserved
@@ -49,7 +53,8 @@ merge-preserved c =
       within_left = omega arith;
       within_right = omega arith;
       same =
-          rw (merge_both left right i j c.requires.left_rising c.merge-test.true c.if-j-right.true same)
+          rw (merge_both left right i j c.requires.left_rising
+          c.merge-test.true c.if-j-right.true same)
           at c.merge.invariant.same;
     }
 
@@ -62,6 +67,11 @@ returns c =
       | then-merge-test+else-j-right w ↦ inr w.if-j-right.false
       | else-merge-test w ↦ inl w.merge-test.false
     ] in
-    rw (c.in_ok-extend-2.ensures, c.in_ok-extend.ensures, c.split_at.ensures.back, c.split_at-2.ensures.back)
+    rw (
+      c.in_ok-extend-2.ensures,
+      c.in_ok-extend.ensures,
+      c.split_at.ensures.back,
+      c.split_at-2.ensures.back,
+    )
     (merge_end left right c.merge.sum.items _ c.merge.i c.merge.j c.requires.left_rising none
     c.merge.invariant.same)

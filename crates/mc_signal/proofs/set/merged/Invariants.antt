@@ -6,7 +6,8 @@ abbrev pub invariant-merge : goal.invariant-merge
 invariant-merge l = record {
   within_left : l.i ≤ length l.left;
   within_right : l.j ≤ length l.right;
-  same : l.sum.items ++ toggled_all (drop l.i l.left) (drop l.j l.right) ≡ toggled_all l.left l.right;
+  same : l.sum.items ++ toggled_all (drop l.i l.left) (drop l.j l.right)
+      ≡ toggled_all l.left l.right;
 }
 
 abbrev pub decreases-merge : goal.decreases-merge

@@ -9,5 +9,6 @@ members-preserved c =
 
 pub returns : goal.returns
 returns c =
-    parity_end c.members.sum _ c.args.members.now c.members.member-index (bits_of c.args.outcomes.now)
+    parity_end c.members.sum _ c.args.members.now c.members.member-index
+    (bits_of c.args.outcomes.now)
     c.members-test.false c.members.invariant

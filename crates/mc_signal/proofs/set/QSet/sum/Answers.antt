@@ -9,6 +9,13 @@ invariant_of-result c =
 
 pub returns-in-Ok-clause-members : goal.returns-in-Ok-clause-members
 returns-in-Ok-clause-members c q =
-    rw (c.in-Ok.ensures, c.as_slice.ensures, c.as_slice-2.ensures, ← c.self.view_is, ← c.other.view_is)
-    (is_member-toggled_all c.self.inside.members.items c.other.inside.members.items q c.self.invariant
+    rw (
+      c.in-Ok.ensures,
+      c.as_slice.ensures,
+      c.as_slice-2.ensures,
+      ← c.self.view_is,
+      ← c.other.view_is,
+    )
+    (is_member-toggled_all c.self.inside.members.items c.other.inside.members.items q
+    c.self.invariant
     c.other.invariant)

@@ -6,7 +6,8 @@ use Rattle.mc_signal.proofs.set.QSet.toggle.Goals as goal
 pub invariant_of-self : goal.invariant_of-self
 invariant_of-self c =
     let e = rw c.as_slice.ensures at c.in-Ok.ensures.1 in
-    rw (c.remove.ensures.items, ← e) (toggled_rising c.args.q c.self.inside.members.items c.self.invariant)
+    rw (c.remove.ensures.items, ← e)
+    (toggled_rising c.args.q c.self.inside.members.items c.self.invariant)
 
 pub invariant_of-self-in-Err : goal.invariant_of-self-in-Err
 invariant_of-self-in-Err c =

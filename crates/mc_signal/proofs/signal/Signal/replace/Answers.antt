@@ -8,7 +8,8 @@ pub returns-then-not-has-clause-value : goal.returns-then-not-has-clause-value
 returns-then-not-has-clause-value c o =
     let lacks : is_member c.self.inside.members c.args.q ≡ false =
     sym c.has.ensures.member ∙ c.if-not-has.true in
-    rw (← c.self.view_is) (value-lacks c.args.q (value c.args.by.now o) c.self.inside.members o lacks)
+    rw (← c.self.view_is)
+    (value-lacks c.args.q (value c.args.by.now o) c.self.inside.members o lacks)
 
 pub returns-clause-ok : goal.returns-clause-ok
 returns-clause-ok c =
