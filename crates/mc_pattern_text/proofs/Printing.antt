@@ -1,7 +1,8 @@
 -- The canonical text, part by part.
-use Rattle.std.proofs.Common.{◌≡◌, ℕ, ◌<◌, zero, suc, List, [], ◌∷◌, ◌++◌, length, map, take, get_or, codes, refl, sym, subst, ◌∙◌, append_assoc, arith}
+use Rattle.std.proofs.Common.{◌≡◌, ℕ, ◌<◌, zero, suc, List, [], ◌∷◌, ◌++◌, length, map, take, get_or, codes, refl, sym, subst, ap, ◌∙◌, append_assoc, arith, Some, ◌+◌, slice_get}
+use Rattle.std.proofs.lemmas.List.{append-nil, map-append}
 use Rattle.std.proofs.lemmas.Grind.{flat_map-append}
-use Rattle.mc_write.specs.Text.{line_text, text_of}
+use Rattle.mc_write.specs.Text.{line_text, text_of, words_behind}
 use Rattle.mc_write.specs.Named.{name_at}
 use Rattle.mc_model.specs.Pattern.{Command, Pattern}
 use Rattle.mc_pattern_text.specs.Canonical.{command_line, pattern_text}
@@ -46,3 +47,21 @@ pub printed : (p : Pattern) (headed with_inputs with_commands with_outputs whole
     IsPrinted p headed with_inputs with_commands with_outputs whole → whole ≡ pattern_text p
 printed p headed with_inputs with_commands with_outputs whole h =
     rw (h.end, h.outputs, h.commands, h.inputs, h.header) (parts p)
+
+-- one member more
+taken_more : (xs : List ℕ) (i x : ℕ) → slice_get xs i ≡ Some x → take (suc i) xs ≡ take i xs ++ x ∷ []
+taken_more [] i x e = absurd (cc)
+taken_more (y ∷ ys) zero x e = let same : y ≡ x = cc in ap (λ (z : ℕ). z ∷ []) same
+taken_more (y ∷ ys) (suc i) x e = ap (λ (zs : List ℕ). y ∷ zs) (taken_more ys i x e)
+
+pub members_more : (start : List ℕ) (f : ℕ → List ℕ) (xs : List ℕ) (i x : ℕ) →
+    slice_get xs i ≡ Some x →
+    (start ++ words_behind (map f (take i xs))) ++ 32 ∷ f x
+    ≡ start ++ words_behind (map f (take (i + 1) xs))
+members_more start f xs i x e =
+    let next : i + 1 ≡ suc i = omega arith in
+    append_assoc start (words_behind (map f (take i xs))) (32 ∷ f x)
+    ∙ ap (λ (ws : List ℕ). start ++ ws)
+      (sym (rw (next, taken_more xs i x e, map-append f (take i xs) (x ∷ []))
+        (flat_map-append (λ (word : List ℕ). 32 ∷ word) (map f (take i xs)) (f x ∷ [])
+        ∙ rw (append-nil (f x)) refl)))

@@ -87,18 +87,19 @@ fn print_measurement<const H: usize>(
     names: &Names,
     q: u16,
     angle: &Angle<H>,
-    signals: (&Signal, &Signal),
+    s: &Signal,
+    t: &Signal,
 ) -> Result<(), Memory>
     requires qubit { q < length names.now }
-    requires first { All (λ k. k < length names.now) signals.0.now.members }
-    requires second { All (λ k. k < length names.now) signals.1.now.members }
-    ensures { OnOk result (text.new.items ≡ text.old.items ++ line_text (command_line names.now (Meas q angle.now signals.0.now signals.1.now))) }
+    requires first { All (λ k. k < length names.now) s.now.members }
+    requires second { All (λ k. k < length names.now) t.now.members }
+    ensures { OnOk result (text.new.items ≡ text.old.items ++ line_text (command_line names.now (Meas q angle.now s.now t.now))) }
 {
     start_line(text, b"m")?;
     add_name(text, names, q)?;
     add_number(text, angle.steps() as u32)?;
-    add_marked(text, b"s:", names, signals.0)?;
-    add_marked(text, b"t:", names, signals.1)?;
+    add_marked(text, b"s:", names, s)?;
+    add_marked(text, b"t:", names, t)?;
     end_line(text)
 }
 
@@ -135,7 +136,7 @@ fn print_command<const H: usize>(
     match command {
         Command::Prep(q) => print_prep(text, names, *q),
         Command::Ent(q, r) => print_entangling(text, names, *q, *r),
-        Command::Meas { q, angle, s, t } => print_measurement(text, names, *q, angle, (s, t)),
+        Command::Meas { q, angle, s, t } => print_measurement(text, names, *q, angle, s, t),
         Command::FixX { q, s } => print_x(text, names, *q, s),
         Command::FixZ { q, s } => print_z(text, names, *q, s),
     }
