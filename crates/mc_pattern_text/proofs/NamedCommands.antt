@@ -39,13 +39,13 @@ measured_at (FixX r s ∷ cs) q m = one_on (FixX r s) cs q (measured_at cs q m)
 measured_at (FixZ r s ∷ cs) q m = one_on (FixZ r s) cs q (measured_at cs q m)
 measured_at (Meas r a s t ∷ cs) q m = elim (cases_Bool (nat_eq q r)) [
   | inl e ↦ record {
-      before = [];
-      angle = a;
-      s = s;
-      t = t;
-      behind = cs;
-      place = ap (λ (k : ℕ). Meas k a s t ∷ cs) (sym (eqb-true q r e));
-    }
+    before = [];
+    angle = a;
+    s = s;
+    t = t;
+    behind = cs;
+    place = ap (λ (k : ℕ). Meas k a s t ∷ cs) (sym (eqb-true q r e));
+  }
   | inr e ↦ one_on (Meas r a s t) cs q (measured_at cs q (rw e at m))
 ]
 
@@ -56,8 +56,8 @@ measured_there inputs before behind q v m =
     let at = measured_at before q m in
     let c : Command = Meas q at.angle at.s at.t in
     let place : before ++ behind ≡ at.before ++ (c ∷ (at.behind ++ behind)) =
-        ap (λ (xs : List Command). xs ++ behind) at.place
-        ∙ append_assoc at.before (c ∷ at.behind) behind in
+    ap (λ (xs : List Command). xs ++ behind) at.place
+    ∙ append_assoc at.before (c ∷ at.behind) behind in
     let live = (v.at at.before c (at.behind ++ behind) place).0.is_there in
     let e = ap prepared at.place ∙ prepared-append at.before (c ∷ at.behind) in
     omega arith
@@ -95,10 +95,11 @@ command_named inputs n before (Ent q r) behind v h =
 command_named inputs n before (Meas q a s t) behind v h =
     let f = v.at before (Meas q a s t) behind refl in
     let e = prepared-append before (Meas q a s t ∷ behind) in
-    let b = f.0.is_there in
-    (omega arith,
-    signal_there inputs n before (Meas q a s t ∷ behind) s v (omega arith) f.1,
-    signal_there inputs n before (Meas q a s t ∷ behind) t v (omega arith) f.2)
+    let b = f.0.is_there in (
+      omega arith,
+      signal_there inputs n before (Meas q a s t ∷ behind) s v (omega arith) f.1,
+      signal_there inputs n before (Meas q a s t ∷ behind) t v (omega arith) f.2,
+    )
 command_named inputs n before (FixX q s) behind v h =
     let f = v.at before (FixX q s) behind refl in
     let e = prepared-append before (FixX q s ∷ behind) in
@@ -117,9 +118,10 @@ commands_named inputs n before (c ∷ cs) v h =
     let e = prepared-append before (c ∷ cs) in
     let f = prepared-append (before ++ (c ∷ [])) cs in
     let g = prepared-append before (c ∷ []) in
-    let i = prepared-append (c ∷ []) cs in
-    (command_named inputs n before c cs v h,
-    commands_named inputs n (before ++ (c ∷ [])) cs (moved_on inputs before c cs v) (omega arith))
+    let i = prepared-append (c ∷ []) cs in (
+      command_named inputs n before c cs v h,
+      commands_named inputs n (before ++ (c ∷ [])) cs (moved_on inputs before c cs v) (omega arith),
+    )
 
 pub pattern_named : (p : Pattern) → IsValidPattern p → AreNamed (length p.names) p.commands
 pattern_named p v =

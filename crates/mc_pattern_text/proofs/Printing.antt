@@ -30,8 +30,8 @@ parts p =
     let end = (codes "end" ∷ []) ∷ [] in
     let last = flat_map-append line_text commands (out ∷ end) in
     regroup (line_text (codes "pattern" ∷ codes "1" ∷ []))
-      (line_text (codes "in" ∷ take p.inputs p.names)) (text_of commands) (line_text out)
-      (line_text (codes "end" ∷ []))
+    (line_text (codes "in" ∷ take p.inputs p.names)) (text_of commands) (line_text out)
+    (line_text (codes "end" ∷ []))
     ∙ rw last refl
 
 -- what is written, part by part
@@ -62,6 +62,6 @@ members_more start f xs i x e =
     let next : i + 1 ≡ suc i = omega arith in
     append_assoc start (words_behind (map f (take i xs))) (32 ∷ f x)
     ∙ ap (λ (ws : List ℕ). start ++ ws)
-      (sym (rw (next, taken_more xs i x e, map-append f (take i xs) (x ∷ []))
-        (flat_map-append (λ (word : List ℕ). 32 ∷ word) (map f (take i xs)) (f x ∷ [])
-        ∙ rw (append-nil (f x)) refl)))
+    (sym (rw (next, taken_more xs i x e, map-append f (take i xs) (x ∷ []))
+    (flat_map-append (λ (word : List ℕ). 32 ∷ word) (map f (take i xs)) (f x ∷ [])
+    ∙ rw (append-nil (f x)) refl)))

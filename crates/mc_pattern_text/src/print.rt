@@ -13,7 +13,9 @@ use mc_model::Memory;
 use mc_names::Names;
 use mc_pattern::{Command, Pattern};
 use mc_signal::Signal;
-use mc_write::{add_name, add_names, add_names_between, add_number, add_word, end_line, start_line};
+use mc_write::{
+    add_name, add_names, add_names_between, add_number, add_word, end_line, start_line,
+};
 use std::alloc::Global;
 
 fn print_header(text: &mut Vec<u8>) -> Result<(), Memory>
@@ -46,12 +48,7 @@ fn add_members(text: &mut Vec<u8>, names: &Names, signal: &Signal) -> Result<(),
 }
 
 /// Writes the members of a signal behind a mark, where there are any.
-fn add_marked(
-    text: &mut Vec<u8>,
-    mark: &[u8],
-    names: &Names,
-    signal: &Signal,
-) -> Result<(), Memory>
+fn add_marked(text: &mut Vec<u8>, mark: &[u8], names: &Names, signal: &Signal) -> Result<(), Memory>
     requires { All (λ k. k < length names.now) signal.now.members }
     ensures { OnOk result (text.new.items ≡ text.old.items ++ words_behind (marked mark.now names.now signal.now.members)) }
 {
@@ -173,10 +170,7 @@ fn print_end(text: &mut Vec<u8>) -> Result<(), Memory>
 }
 
 /// The canonical text of a pattern.
-pub fn print_pattern<const H: usize>(
-    alloc: Global,
-    pattern: &Pattern<H>,
-) -> Result<Vec<u8>, Memory>
+pub fn print_pattern<const H: usize>(alloc: Global, pattern: &Pattern<H>) -> Result<Vec<u8>, Memory>
     ensures { IfOk result (λ text. text.items ≡ pattern_text pattern.now) }
 {
     let mut text = Vec::new(alloc);

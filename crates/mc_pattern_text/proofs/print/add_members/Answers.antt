@@ -8,4 +8,4 @@ members-preserved c =
     c.in_ok-add_name.ensures
     ∙ ap (λ t. t ++ 32 ∷ name_at c.args.names.now c.get.result) c.members.invariant
     ∙ members_more c.args.text.now.items (name_at c.args.names.now) c.members-members.result.now
-      c.members.i c.get.result c.get.ensures.member
+    c.members.i c.get.result c.get.ensures.member

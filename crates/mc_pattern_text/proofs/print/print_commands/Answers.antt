@@ -7,5 +7,5 @@ pub print_command-requires : goal.print_command-requires
 print_command-requires g c = (
   omega arith,
   AreNamed-at plain_command _ c.args.commands.now c.commands.command-index
-  c.command-item.result c.command-item.is c.commands-test.true c.requires,
+      c.command-item.result c.command-item.is c.commands-test.true c.requires,
 )
