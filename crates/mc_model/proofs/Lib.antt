@@ -1,8 +1,13 @@
 pub mod WholeNumbers
 pub mod RingLemmas
+pub mod RootTwo
 pub mod BitLemmas
 pub mod SignalLemmas
 pub mod PhaseLemmas
 pub mod AmplitudeLemmas
 pub mod AlikeLemmas
 pub mod ValidLemmas
+pub mod OddSums
+pub mod Refutation
+pub mod CircuitRows
+pub mod GraphRows

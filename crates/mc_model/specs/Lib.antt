@@ -18,3 +18,4 @@ pub mod Flow
 pub mod Choice
 pub mod Made
 pub mod Depth
+pub mod Laws

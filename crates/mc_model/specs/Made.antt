@@ -1,12 +1,11 @@
 -- The pattern that is made from a flow, and the circuit that is extracted by a causal flow.
-use Rattle.std.specs.Prelude.{ℕ, zero, suc, ◌-◌, Bool, cond, not, ◌&&◌, ◌||◌, nat_eq, nat_lt, List, [], ◌∷◌, ◌++◌, map, filter, flat_map, position, find, unwrap_or, length, is_none, slice_get, Option}
-use Rattle.mc_model.specs.Names.{Name}
+use Rattle.std.specs.Prelude.{ℕ, zero, suc, cond, not, ◌&&◌, ◌||◌, nat_eq, nat_lt, List, [], ◌∷◌, ◌++◌, map, filter, flat_map, position, find, unwrap_or, is_none, slice_get, Option}
 use Rattle.mc_model.specs.Numbers.{numbers_from, numbers_where, is_member}
 use Rattle.mc_model.specs.Bits.{Bits}
 use Rattle.mc_model.specs.Phase.{negated}
-use Rattle.mc_model.specs.Signals.{Signal, signal_of}
+use Rattle.mc_model.specs.Signals.{signal_of}
 use Rattle.mc_model.specs.Pattern.{Command, FixX, FixZ, Pattern, Gate, J, CZ, Circuit}
-use Rattle.mc_model.specs.Graph.{Edge, OpenGraph, size, is_input, is_output, base_angle, odd_neighbourhood, joins, graph_state, bare_measurement}
+use Rattle.mc_model.specs.Graph.{OpenGraph, size, is_output, base_angle, odd_neighbourhood, joins, graph_state, bare_measurement}
 use Rattle.mc_model.specs.Flow.{depth_of}
 
 -- the vertices that are no outputs, from the layer `k` down, and within a layer by rising number
@@ -22,7 +21,7 @@ corrected_measurement g s i =
     bare_measurement g i
     ∷ (map (λ k. FixX k (signal_of i)) (numbers_where s (size g))
     ++ map (λ k. FixZ k (signal_of i))
-       (numbers_where (λ k. odd_neighbourhood g s k && not (nat_eq k i)) (size g)))
+    (numbers_where (λ k. odd_neighbourhood g s k && not (nat_eq k i)) (size g)))
 
 unfoldable pub flow_pattern : OpenGraph → (ℕ → Bits) → (ℕ → ℕ) → Pattern
 flow_pattern g sets layer = record {
@@ -32,7 +31,7 @@ flow_pattern g sets layer = record {
   commands =
       graph_state g
       ++ flat_map (λ i. corrected_measurement g (sets i) i)
-         (measuring_order g layer (depth_of g layer));
+      (measuring_order g layer (depth_of g layer));
 }
 
 -- ---- extraction: a wire is a chain of vertices, each the next of the one before it
@@ -71,13 +70,14 @@ cz_gate g next v w =
     cond (nat_lt w v) (CZ (wire_of g next w) (wire_of g next v))
     (CZ (wire_of g next v) (wire_of g next w))
 
--- `J` on the wire of each vertex in order, and then the edges between its next and the vertices that are current
+-- `J` on the wire of each vertex in order, and then the edges between its next and the vertices
+-- that are current
 unfoldable pub extracted_gates : OpenGraph → (ℕ → ℕ) → ℕ → List ℕ → List ℕ → List Gate
 extracted_gates g next half done [] = []
 extracted_gates g next half done (i ∷ is) =
     J (wire_of g next i) (negated half (unwrap_or (base_angle g i) 0))
     ∷ (map (cz_gate g next (next i))
-       (numbers_where (λ k. joins g.edges (next i) k && is_current g next (i ∷ done) k) (size g))
+    (numbers_where (λ k. joins g.edges (next i) k && is_current g next (i ∷ done) k) (size g))
     ++ extracted_gates g next half (i ∷ done) is)
 
 -- the edges between first vertices, then those gates
