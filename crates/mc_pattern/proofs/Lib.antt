@@ -2,4 +2,3 @@ pub mod Members
 pub mod Listed
 pub mod RuleLaws
 pub mod Built
-

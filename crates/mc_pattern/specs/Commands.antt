@@ -1,5 +1,5 @@
 -- The commands of the code as those of the definitions.
-use Rattle.std.specs.Prelude.{ℕ, Bool, true, false}
+use Rattle.std.specs.Prelude.{ℕ}
 use Rattle.mc_pattern.specs.declared.command.Command.{Command}
 use Rattle.mc_pattern.specs.declared.command.Command.TheVariants as command
 use Rattle.mc_model.specs.Pattern as plain

@@ -16,6 +16,10 @@ abbrev pub begun : List Name → ℕ → List Command → Pattern
 begun names inputs commands =
     record { names = names; inputs = inputs; outputs = []; commands = commands }
 
+-- the pattern with outputs
+abbrev pub with_outputs : Pattern → List ℕ → Pattern
+with_outputs p qs = record p { outputs = qs }
+
 -- the same of a pattern so far, apart from its outputs
 pub record IsBegun (p : Pattern) : Type 0 where
   pub names : AreNames p.names
@@ -29,7 +33,7 @@ pub record IsBuilt (p : Pattern) (marks : List Bool) : Type 0 where
   pub long : length marks ≡ 256
   pub same : bits_of marks ≡ measured p.commands
 
--- a qubit with this name may be prepared: the name is not held, and there is room for the qubit and its command
+-- a qubit with this name may be prepared: the name is not held, and there is room
 pub record IsFree (p : Pattern) (name : Name) : Type 0 where
   pub new : place_of p.names name ≡ None
   pub few : length p.names < 256

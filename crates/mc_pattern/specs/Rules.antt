@@ -1,5 +1,5 @@
--- The rules that a builder tests, numbered from 1 to 8: why a command or a list of outputs is refused.
-use Rattle.std.specs.Prelude.{ℕ, ◌<◌, Bool, true, false, not, ◌&&◌, nat_eq, nat_lt, List, [], ◌∷◌, ◌++◌, length, count_by, Option, None, Some, if◌then◌else◌, ⊤}
+-- The rules that a builder tests, numbered from 1 to 8: why a command or outputs are refused.
+use Rattle.std.specs.Prelude.{ℕ, Bool, true, false, not, ◌&&◌, nat_eq, nat_lt, List, [], ◌∷◌, ◌++◌, length, count_by, Option, None, Some, if◌then◌else◌, ⊤}
 use Rattle.std.specs.List.{list_any}
 use Rattle.mc_model.specs.Bits.{Bits, replaced}
 use Rattle.mc_model.specs.Signals.{IsRising}
@@ -59,27 +59,43 @@ abbrev pub marked : Bits → Option ℕ → Bits
 marked done None = done
 marked done (Some q) = replaced done q true
 
--- the least rule that is broken where there are `n` qubits, of which those of `done` were measured: 1, an operand is no
--- qubit; 2, an operand was measured; 3, both operands are one qubit; 4, a member of a signal was not measured
+-- no number of one of `n` qubits
+abbrev pub is_stranger : ℕ → ℕ → Bool
+is_stranger n q = not (nat_lt q n)
+
+-- no qubit of `done`
+abbrev pub is_undone : Bits → ℕ → Bool
+is_undone done q = not (done q)
+
+-- listed more than once
+abbrev pub is_twice : List ℕ → ℕ → Bool
+is_twice qs q = nat_lt 1 (count_by (nat_eq q) qs)
+
+-- no qubit of `done`, and not listed
+abbrev pub is_missing : Bits → List ℕ → ℕ → Bool
+is_missing done qs q = not (done q) && not (is_member qs q)
+
+-- the least rule that is broken where there are `n` qubits, of which those of `done` were measured:
+-- 1, an operand is no qubit; 2, an operand was measured; 3, both operands are one qubit;
+-- 4, a member of a signal was not measured
 abbrev pub first_rule : ℕ → Bits → List ℕ → Bool → List ℕ → Option ℕ
 first_rule n done operands is_loop members =
-    if list_any (λ q. not (nat_lt q n)) operands then Some 1
+    if list_any (is_stranger n) operands then Some 1
     else (if list_any done operands then Some 2
     else (if is_loop then Some 3
-    else (if list_any (λ q. not (done q)) members then Some 4 else None)))
+    else (if list_any (is_undone done) members then Some 4 else None)))
 
 abbrev pub command_rule : ℕ → Bits → Command → Option ℕ
 command_rule n done c = first_rule n done (operands c) (is_loop c) (members_of c)
 
--- the least rule that outputs break: 5, an output is no qubit; 6, an output was measured; 7, an output is listed twice;
--- 8, a qubit that was not measured is not listed
+-- the least rule that outputs break: 5, an output is no qubit; 6, an output was measured;
+-- 7, an output is listed twice; 8, a qubit that was not measured is not listed
 abbrev pub output_rule : ℕ → Bits → List ℕ → Option ℕ
 output_rule n done qs =
-    if list_any (λ q. not (nat_lt q n)) qs then Some 5
+    if list_any (is_stranger n) qs then Some 5
     else (if list_any done qs then Some 6
-    else (if list_any (λ q. nat_lt 1 (count_by (nat_eq q) qs)) qs then Some 7
-    else (if list_any (λ q. not (done q) && not (is_member qs q)) (numbers_from 0 n) then Some 8
-    else None)))
+    else (if list_any (is_twice qs) qs then Some 7
+    else (if list_any (is_missing done qs) (numbers_from 0 n) then Some 8 else None)))
 
 -- the least rule that a command breaks behind a pattern so far
 abbrev pub broken_rule : Pattern → Command → Option ℕ

@@ -7,7 +7,7 @@ ghost use Rattle.mc_model.specs.Pattern.{Prep};
 ghost use Rattle.mc_signal.specs.Outcomes.{bits_of};
 ghost use Rattle.mc_pattern.specs.Commands.{plain_command};
 ghost use Rattle.mc_pattern.specs.Rules.{is_prep, broken_rule, broken_outputs, measured_by, marked};
-ghost use Rattle.mc_pattern.specs.Patterns.{begun, IsFree};
+ghost use Rattle.mc_pattern.specs.Patterns.{begun, with_outputs, IsFree};
 
 use crate::command::Command;
 use crate::outputs::rule_of_outputs;
@@ -64,7 +64,8 @@ impl<const H: usize> Model for Builder<H> {
 
     ghost view = { λ b. begun b.names b.inputs (map plain_command b.commands.items) };
 
-    ghost invariant = { λ b. IsBuilt (begun b.names b.inputs (map plain_command b.commands.items)) b.marks.items };
+    ghost invariant = { λ b.
+        IsBuilt (begun b.names b.inputs (map plain_command b.commands.items)) b.marks.items };
 }
 
 /// The qubit that a command measures, if it measures one.
@@ -120,20 +121,18 @@ impl<const H: usize> Builder<H> {
     /// commands.
     pub fn prep(&mut self, name: Name) -> Result<u16, PushEnd>
         ensures number { IfOk result (λ q. q ≡ length self.old.names) }
-        ensures added {
-            OnOk result (self.new ≡
-                begun (self.old.names ++ name ∷ []) self.old.inputs (self.old.commands ++ Prep (length self.old.names) ∷ []))
-        }
+        ensures added { OnOk result (self.new ≡ record self.old {
+          names = self.old.names ++ name ∷ [];
+          commands = self.old.commands ++ Prep (length self.old.names) ∷ [];
+        }) }
         ensures allowed { OnOk result (IsFree self.old name) }
-        ensures twice { (q : ℕ) → (result ≡ Err (PushEnd.Twice q)) ↔ (place_of self.old.names name ≡ Some q) }
-        ensures full {
-            (result ≡ Err PushEnd.Full) ↔ ((place_of self.old.names name ≡ None) × (length self.old.names ≡ 256))
-        }
-        ensures limit {
-            (result ≡ Err PushEnd.Limit) ↔
-                ((place_of self.old.names name ≡ None) × (length self.old.names < 256)
-                    × (length self.old.commands ≡ 262_144))
-        }
+        ensures twice { (q : ℕ) →
+            (result ≡ Err (PushEnd.Twice q)) ↔ (place_of self.old.names name ≡ Some q) }
+        ensures full { (result ≡ Err PushEnd.Full) ↔
+            ((place_of self.old.names name ≡ None) × (length self.old.names ≡ 256)) }
+        ensures limit { (result ≡ Err PushEnd.Limit) ↔
+            ((place_of self.old.names name ≡ None) × (length self.old.names < 256)
+            × (length self.old.commands ≡ 262_144)) }
         ensures no_rule { (n : ℕ) → result ≡ Err (PushEnd.Rule n) → ⊥ }
         ensures memory_last { result ≡ Err PushEnd.Memory → IsFree self.old name }
         ensures err { OnErr result (self.new ≡ self.old) }
@@ -170,28 +169,21 @@ impl<const H: usize> Builder<H> {
     /// comes where there are 262,144 commands. A refused command is dropped, and the builder is as it was.
     pub fn push(&mut self, command: Command<H>) -> Result<(), PushEnd>
         requires { is_prep (plain_command command) ≡ false }
-        ensures added {
-            OnOk result (self.new ≡
-                record self.old { commands = self.old.commands ++ plain_command command.entry ∷ [] })
-        }
-        ensures allowed {
-            OnOk result ((broken_rule self.old (plain_command command.entry) ≡ None)
-                × (length self.old.commands < 262_144))
-        }
-        ensures rule {
-            (n : ℕ) → (result ≡ Err (PushEnd.Rule n)) ↔ (broken_rule self.old (plain_command command.entry) ≡ Some n)
-        }
-        ensures limit {
-            (result ≡ Err PushEnd.Limit) ↔
-                ((broken_rule self.old (plain_command command.entry) ≡ None)
-                    × (length self.old.commands ≡ 262_144))
-        }
+        ensures added { OnOk result (self.new ≡
+            record self.old { commands = self.old.commands ++ plain_command command.entry ∷ [] }) }
+        ensures allowed { OnOk result ((broken_rule self.old (plain_command command.entry) ≡ None)
+            × (length self.old.commands < 262_144)) }
+        ensures rule { (n : ℕ) →
+            (result ≡ Err (PushEnd.Rule n)) ↔
+            (broken_rule self.old (plain_command command.entry) ≡ Some n) }
+        ensures limit { (result ≡ Err PushEnd.Limit) ↔
+            ((broken_rule self.old (plain_command command.entry) ≡ None)
+            × (length self.old.commands ≡ 262_144)) }
         ensures no_twice { (q : ℕ) → result ≡ Err (PushEnd.Twice q) → ⊥ }
         ensures no_full { result ≡ Err PushEnd.Full → ⊥ }
-        ensures memory_last {
-            result ≡ Err PushEnd.Memory → (broken_rule self.old (plain_command command.entry) ≡ None)
-                × (length self.old.commands < 262_144)
-        }
+        ensures memory_last { result ≡ Err PushEnd.Memory →
+            (broken_rule self.old (plain_command command.entry) ≡ None)
+            × (length self.old.commands < 262_144) }
         ensures err { OnErr result (self.new ≡ self.old) }
     {
         if let Some(rule) = rule_of(self.names.len(), self.marks.as_slice(), &command) {
@@ -212,14 +204,12 @@ impl<const H: usize> Builder<H> {
     /// measured; 7, an output is listed twice; 8, a qubit that was not measured is not listed. A refusal, `Memory` last, hands
     /// the builder back as it was.
     pub fn finish(self, alloc: Global, outputs: &[u16]) -> Result<Pattern<H>, (Builder<H>, PushEnd)>
-        ensures pattern { IfOk result (λ pattern. pattern ≡ record self.entry { outputs = outputs.now }) }
+        ensures pattern { IfOk result (λ pattern. pattern ≡ with_outputs self.entry outputs.now) }
         ensures allowed { OnOk result (broken_outputs self.entry outputs.now ≡ None) }
-        ensures rule {
-            (n : ℕ) → IsErrAnd result (λ refused. refused.1 ≡ PushEnd.Rule n) ↔ (broken_outputs self.entry outputs.now ≡ Some n)
-        }
-        ensures memory_last {
-            IfErr result (λ refused. (refused.1 ≡ PushEnd.Memory) ↔ (broken_outputs self.entry outputs.now ≡ None))
-        }
+        ensures rule { (n : ℕ) → IsErrAnd result (λ refused. refused.1 ≡ PushEnd.Rule n) ↔
+            (broken_outputs self.entry outputs.now ≡ Some n) }
+        ensures memory_last { IfErr result (λ refused. (refused.1 ≡ PushEnd.Memory) ↔
+            (broken_outputs self.entry outputs.now ≡ None)) }
         ensures kept { IfErr result (λ refused. refused.0 ≡ self.entry) }
     {
         if let Some(rule) = rule_of_outputs(self.names.len(), self.marks.as_slice(), outputs) {

@@ -4,14 +4,14 @@ ghost use Rattle.std.specs.Prelude.{◌≡◌, ◌<◌, ◌≤◌, ◌&&◌, All
 ghost use Rattle.std.specs.List.{list_any};
 ghost use Rattle.mc_model.specs.Numbers.{numbers_from, is_member};
 ghost use Rattle.mc_signal.specs.Outcomes.{bits_of};
-ghost use Rattle.mc_pattern.specs.Rules.{output_rule};
+ghost use Rattle.mc_pattern.specs.Rules.{output_rule, is_twice, is_missing};
 
 use crate::rules::{has_marked, has_stranger, is_marked};
 
 /// Whether one of the numbers stands in the list twice.
 fn has_twice(qubits: &[u16]) -> bool
     requires { All (λ q. q < 256) qubits.now }
-    ensures { result ≡ list_any (λ q. nat_lt 1 (count_by (nat_eq q) qubits.now)) qubits.now }
+    ensures { result ≡ list_any (is_twice qubits.now) qubits.now }
 {
     let mut seen = [false; 256];
     'qubits: for q in qubits {
@@ -31,7 +31,7 @@ fn lists(qubits: &[u16], q: u16) -> bool
 
 /// Whether a qubit without a mark is missing in the list.
 fn has_missing(count: u16, marks: &[bool], qubits: &[u16]) -> bool
-    ensures { result ≡ list_any (λ q. not (bits_of marks.now q) && not (is_member qubits.now q)) (numbers_from 0 count) }
+    ensures { result ≡ list_any (is_missing (bits_of marks.now) qubits.now) (numbers_from 0 count) }
 {
     'qubits: for q in 0..count {
         if !is_marked(marks, q) && !lists(qubits, q) {

@@ -23,13 +23,15 @@ impl<const H: usize> Model for Pattern<H> {
     ghost use Rattle.std.specs.Prelude.{map};
     ghost use Rattle.mc_model.specs.Pattern.{Pattern as Plain};
     ghost use Rattle.mc_pattern.specs.Commands.{plain_command};
-    ghost use Rattle.mc_pattern.specs.Patterns.{IsPattern, begun};
+    ghost use Rattle.mc_pattern.specs.Patterns.{IsPattern, begun, with_outputs};
 
     ghost Value = { Plain };
 
-    ghost view = { λ p. record (begun p.names p.inputs (map plain_command p.commands.items)) { outputs = p.outs.items } };
+    ghost view = { λ p.
+        with_outputs (begun p.names p.inputs (map plain_command p.commands.items)) p.outs.items };
 
-    ghost invariant = { λ p. IsPattern (record (begun p.names p.inputs (map plain_command p.commands.items)) { outputs = p.outs.items }) };
+    ghost invariant = { λ p. IsPattern
+        (with_outputs (begun p.names p.inputs (map plain_command p.commands.items)) p.outs.items) };
 }
 
 impl<const H: usize> Pattern<H> {

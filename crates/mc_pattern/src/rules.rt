@@ -5,7 +5,7 @@ ghost use Rattle.std.specs.List.{list_any};
 ghost use Rattle.mc_model.specs.Signals.{IsRising};
 ghost use Rattle.mc_signal.specs.Outcomes.{bits_of};
 ghost use Rattle.mc_pattern.specs.Commands.{plain_command};
-ghost use Rattle.mc_pattern.specs.Rules.{command_rule, first_rule, SignalsAreSets};
+ghost use Rattle.mc_pattern.specs.Rules.{command_rule, first_rule, is_stranger, is_undone, SignalsAreSets};
 
 use crate::command::Command;
 use mc_signal::Signal;
@@ -19,7 +19,7 @@ pub(crate) fn is_marked(marks: &[bool], q: u16) -> bool
 
 /// Whether one of the numbers is no qubit.
 pub(crate) fn has_stranger(count: u16, qubits: &[u16]) -> bool
-    ensures { result ≡ list_any (λ q. not (nat_lt q count)) qubits.now }
+    ensures { result ≡ list_any (is_stranger count) qubits.now }
 {
     qubits.iter().any(|q| *q >= count)
 }
@@ -33,7 +33,7 @@ pub(crate) fn has_marked(marks: &[bool], qubits: &[u16]) -> bool
 
 /// Whether a member of the signal was not measured.
 fn has_unmarked(marks: &[bool], signal: &Signal) -> bool
-    ensures unmarked { result ≡ list_any (λ q. not (bits_of marks.now q)) signal.now.members }
+    ensures unmarked { result ≡ list_any (is_undone (bits_of marks.now)) signal.now.members }
     ensures set { IsRising signal.now.members }
 {
     let members = signal.members();
@@ -86,7 +86,11 @@ fn signal_rule(count: u16, marks: &[bool], q: u16, signal: &Signal) -> Option<u8
 }
 
 /// The least rule that a command breaks where there are so many qubits, and marks stand at the measured ones.
-pub(crate) fn rule_of<const H: usize>(count: u16, marks: &[bool], command: &Command<H>) -> Option<u8>
+pub(crate) fn rule_of<const H: usize>(
+    count: u16,
+    marks: &[bool],
+    command: &Command<H>,
+) -> Option<u8>
     ensures rule { result ≡ command_rule count (bits_of marks.now) (plain_command command.now) }
     ensures sets { IfNone result (SignalsAreSets (plain_command command.now)) }
 {

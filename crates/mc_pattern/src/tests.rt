@@ -82,10 +82,18 @@ fn builds_a_pattern(rt: HostRuntime) -> Result<(), Fail> {
     let alloc = rt.alloc();
     match with_j(&rt, alloc)?.finish(alloc, &[1]) {
         Ok(pattern) => {
-            assert_eq!(rt; (pattern.names().len(), pattern.inputs(), pattern.measured()), (2, 1, 1));
+            assert_eq!(rt;
+                (pattern.names().len(), pattern.inputs(), pattern.measured()),
+                (2, 1, 1)
+            );
             assert_eq!(rt; pattern.outputs(), [1].as_slice());
             match pattern.commands() {
-                [Command::Prep(1), Command::Ent(0, 1), Command::Meas { q: 0, angle, s, t }, Command::FixX { q: 1, s: fix }] => {
+                [
+                    Command::Prep(1),
+                    Command::Ent(0, 1),
+                    Command::Meas { q: 0, angle, s, t },
+                    Command::FixX { q: 1, s: fix },
+                ] => {
                     assert!(rt; angle.steps() == 7 && s.is_empty() && t.is_empty() && fix.has(0));
                 }
                 _ => assert!(rt; false),

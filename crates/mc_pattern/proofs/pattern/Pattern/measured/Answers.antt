@@ -1,4 +1,4 @@
-use Rattle.std.proofs.Common.{ap, length, sym, ◌∙◌, arith}
+use Rattle.std.proofs.Common.{arith}
 use Rattle.mc_pattern.proofs.Built.{measured_others}
 use Rattle.mc_pattern.proofs.pattern.Pattern.measured.Goals as goal
 
@@ -12,7 +12,9 @@ pub overflow_sub-result : goal.overflow_sub-result
 overflow_sub-result g c = let h = measured_others _ c.self.invariant in omega arith
 
 pub returns-clause-count : goal.returns-clause-count
-returns-clause-count g c = let h = measured_others _ c.self.invariant in rw (← c.self.view_is) (omega arith)
+returns-clause-count g c =
+    let h = measured_others _ c.self.invariant in rw (← c.self.view_is) (omega arith)
 
 pub returns-clause-others : goal.returns-clause-others
-returns-clause-others g c = let h = measured_others _ c.self.invariant in rw (← c.self.view_is) (omega arith)
+returns-clause-others g c =
+    let h = measured_others _ c.self.invariant in rw (← c.self.view_is) (omega arith)
