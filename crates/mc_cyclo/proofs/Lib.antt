@@ -1,3 +1,4 @@
 pub mod Places
 pub mod Turning
 pub mod Elements
+pub mod RootLemmas

@@ -1,11 +1,12 @@
 //! Elements of the amplitude ring.
 
-ghost use Rattle.std.specs.Prelude.{◌≡◌, ◌<◌, ◌≤◌, ◌^◌, pos, length, IsTrue, MatchOption, slice_index_or};
+ghost use Rattle.std.specs.Prelude.{◌≡◌, ◌≢◌, List, ℤ, ◌<◌, ◌≤◌, ◌^◌, pos, length, IsTrue, MatchOption, slice_index_or};
 ghost use Rattle.std.specs.Int.RustNames.{unsigned_abs};
 ghost use Rattle.mc_model.specs.Steps.{is_permitted};
 ghost use Rattle.mc_model.specs.Ring.{plus, minus, times, zeros, unit as one_of, rotations};
 ghost use Rattle.mc_cyclo.specs.Height.{height, IsInRange};
 ghost use Rattle.mc_cyclo.specs.Cyclo.{IsLong, cyclo_laws, cyclo_turns, cyclo_heights};
+ghost use Rattle.mc_cyclo.specs.Roots.{root_times};
 
 use crate::coordinates::{add_to, halve, is_in_range, negate, turn};
 use crate::product::{multiply, narrow};
@@ -64,6 +65,27 @@ impl<const H: usize> Cyclo<H> {
         ensures within { unsigned_abs result ≤ 2 ^ 60 }
     {
         self.coordinates[i]
+    }
+
+    /// The element of which this one is the root of two times; `None` exactly where there is none.
+    pub fn over_root(&self) -> Option<Cyclo<H>>
+        ensures {
+            MatchOption result ((a : List ℤ) → IsLong H a → self.now ≢ root_times H a)
+                (λ a. (self.now ≡ root_times H a) × IsLong H a)
+        }
+    {
+        let mut twice = self.coordinates;
+        let mut other = self.coordinates;
+        let quarter = (H / 4) as u32;
+        turn(&mut twice, quarter);
+        turn(&mut other, 7 * quarter);
+        add_to(&mut twice, &other);
+        let mut coordinates = [0; H];
+        if halve(&twice, &mut coordinates) {
+            Some(Cyclo { coordinates })
+        } else {
+            None
+        }
     }
 }
 
