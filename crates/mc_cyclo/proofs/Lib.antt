@@ -2,3 +2,4 @@ pub mod Places
 pub mod Turning
 pub mod Elements
 pub mod RootLemmas
+pub mod Phases

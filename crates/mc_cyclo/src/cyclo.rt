@@ -44,6 +44,7 @@ impl<const H: usize> Cyclo<H> {
         Cyclo::in_range(coordinates)
     }
 
+    /// The element, where its coordinates are in the range.
     fn in_range(coordinates: [i64; H]) -> Option<Cyclo<H>>
         requires { IsTrue (is_permitted H) }
         ensures {
@@ -67,8 +68,16 @@ impl<const H: usize> Cyclo<H> {
         self.coordinates[i]
     }
 
+    pub(crate) fn coordinates(&self) -> &[i64]
+        ensures value { result.now ≡ self.now }
+        ensures long { length self.now ≡ H }
+        ensures permitted { IsTrue (is_permitted H) }
+    {
+        &self.coordinates
+    }
+
     /// The element of which this one is the root of two times; `None` exactly where there is none.
-    pub fn over_root(&self) -> Option<Cyclo<H>>
+    pub(crate) fn over_root(&self) -> Option<Cyclo<H>>
         ensures {
             MatchOption result ((a : List ℤ) → IsLong H a → self.now ≢ root_times H a)
                 (λ a. (self.now ≡ root_times H a) × IsLong H a)
