@@ -1,0 +1,5 @@
+pub mod Places
+pub mod Turning
+pub mod Elements
+pub mod RootLemmas
+pub mod Phases

@@ -1,0 +1,13 @@
+use Rattle.std.proofs.Common.{ℕ}
+use Rattle.mc_cyclo.specs.Cyclo.{IsLong}
+use Rattle.mc_cyclo.specs.Roots.{IsSameValue}
+use Rattle.mc_cyclo.proofs.amp.Amp.reduced.Given as goal
+
+abbrev pub invariant-roots : goal.invariant-roots
+invariant-roots g l = record {
+  long : IsLong g.row.H l.rest;
+  same : IsSameValue g.row.H l.rest l.left l.fn.num l.fn.halves;
+}
+
+abbrev pub decreases-roots : goal.decreases-roots
+decreases-roots g l = l.left

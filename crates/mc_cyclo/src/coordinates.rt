@@ -1,0 +1,98 @@
+//! Coordinates in place.
+
+ghost use Rattle.std.specs.Prelude.{◌≡◌, ◌^◌, ◌<◌, ◌≤◌, ◌↔◌, length, IsTrue, MatchOption, ◌+ℤ◌, ℤ, List};
+ghost use lib.IntN.{neg_ℤ};
+ghost use Rattle.std.specs.Int.RustNames.{unsigned_abs};
+ghost use Rattle.mc_model.specs.Ring.{plus, minus, rotations};
+ghost use Rattle.mc_cyclo.specs.Height.{height, IsInRange};
+
+/// The greatest absolute value of a coordinate.
+pub const MOST: u64 = 1 << 60;
+
+/// Whether each coordinate is in the range.
+pub fn is_in_range(coordinates: &[i64]) -> bool
+    ensures { IsTrue result ↔ IsInRange coordinates.now }
+{
+    'coordinates: for x in coordinates {
+        if x.unsigned_abs() > MOST {
+            return false;
+        }
+    }
+    true
+}
+
+fn sum_of(x: i64, y: i64) -> i64
+    requires low_x { unsigned_abs x ≤ 2 ^ 60 }
+    requires low_y { unsigned_abs y ≤ 2 ^ 60 }
+    ensures { result ≡ x +ℤ y }
+{
+    x + y
+}
+
+fn negative_of(x: i64) -> i64
+    requires { unsigned_abs x ≤ 2 ^ 60 }
+    ensures { result ≡ neg_ℤ x }
+{
+    -x
+}
+
+/// The number of which this is twice; `None` where it is odd.
+fn half_of(x: i64) -> Option<i64>
+    requires { unsigned_abs x ≤ 2 ^ 61 }
+    ensures { MatchOption result ((y : ℤ) → x ≡ y +ℤ y → ⊥) (λ y. (x ≡ y +ℤ y) × (unsigned_abs y ≤ 2 ^ 60)) }
+{
+    if x % 2 == 0 { Some(x / 2) } else { None }
+}
+
+/// Adds the other coordinates.
+pub fn add_to(sum: &mut [i64], other: &[i64])
+    requires alike { length sum.old ≡ length other.now }
+    requires in_range { IsInRange sum.old }
+    requires other_in_range { IsInRange other.now }
+    ensures { sum.new ≡ plus sum.old other.now }
+{
+    for k in 0..sum.len() {
+        sum[k] = sum_of(sum[k], other[k]);
+    }
+}
+
+/// Makes the coordinates their negatives.
+pub fn negate(coordinates: &mut [i64])
+    requires { IsInRange coordinates.old }
+    ensures { coordinates.new ≡ minus coordinates.old }
+{
+    for k in 0..coordinates.len() {
+        coordinates[k] = negative_of(coordinates[k]);
+    }
+}
+
+/// Multiplies by `w^k`: what goes round comes back as its negative.
+pub fn turn(coordinates: &mut [i64], k: u32)
+    requires some { 0 < length coordinates.old }
+    requires in_range { IsInRange coordinates.old }
+    ensures { coordinates.new ≡ rotations k coordinates.old }
+{
+    let half = coordinates.len();
+    let (half_turns, steps) = (k as usize / half, k as usize % half);
+    coordinates.rotate_right(steps);
+    negate(&mut coordinates[..steps]);
+    if half_turns % 2 == 1 {
+        negate(coordinates);
+    }
+}
+
+/// Writes the halves, where each coordinate is even.
+pub fn halve(twice: &[i64], halves: &mut [i64]) -> bool
+    requires alike { length twice.now ≡ length halves.old }
+    requires low { height twice.now ≤ 2 ^ 61 }
+    ensures yes { IsTrue result → (twice.now ≡ plus halves.new halves.new) × IsInRange halves.new }
+    ensures no { (a : List ℤ) → length a ≡ length twice.now → twice.now ≡ plus a a → IsTrue result }
+{
+    for k in 0..twice.len() {
+        match half_of(twice[k]) {
+            Some(x) => halves[k] = x,
+            None => return false,
+        }
+    }
+    true
+}

@@ -1,0 +1,15 @@
+//! Exact amplitudes: elements of the amplitude ring over powers of the root of two.
+#![tactic(auto)]
+
+mod amp;
+mod coordinates;
+mod cyclo;
+mod phase;
+mod product;
+#[cfg(test)]
+mod tests;
+mod text;
+
+pub use amp::Amp;
+pub use cyclo::Cyclo;
+pub use phase::phase_between;
