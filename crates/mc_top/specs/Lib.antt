@@ -1,2 +1,6 @@
 pub mod Status
+pub mod Ends
+pub mod Tasks
 pub mod Documents
+pub mod Spelled
+pub mod Serve

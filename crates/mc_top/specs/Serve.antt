@@ -39,7 +39,7 @@ due_unless (Some end) due = refusal end
 
 abbrev pub due_for : Task → List ℕ → Due
 due_for Translate text =
-    due_unless (answered (first_in_text only_circuits text)) (due_translation (spelled_circuit text))
+    due_unless (answered (first_in_text only_circuits text)) (due_translation (spelled_circuit 4 text))
 
 -- the most bytes of a text
 abbrev pub most_bytes : ℕ
@@ -89,13 +89,11 @@ abbrev pub Notes : Option (List ℕ) → Option (List ℕ) → ℕ → ℕ → L
 Notes old new before now line =
     AppendsWhereTold old new line ⊎ (AppendsPrefix old new line × Rose before now)
 
--- the circuit that a text spells, and its translation: at every outcome list the branch map is the table
-abbrev pub TranslationHasTable : List ℕ → Type 0
-TranslationHasTable text =
-    let c = spelled_circuit text in
-    (o : Bits) (y : List Bool) (b : Bits) →
+-- at every outcome list the branch map of a circuit's translation is the circuit's table
+abbrev pub HasTableAtEachBranch : Circuit → Type 0
+HasTableAtEachBranch c = (o : Bits) (y : List Bool) (b : Bits) →
     branch_map (ring 4) (translation 4 c) o y b ≡ circuit_table (ring 4) c y b
 
--- what a task's answer means
+-- what the answer to a text means
 abbrev pub Means : Task → List ℕ → Type 0
-Means Translate text = TranslationHasTable text
+Means Translate text = HasTableAtEachBranch (spelled_circuit 4 text)

@@ -5,6 +5,12 @@ mod document;
 mod note;
 mod status;
 mod takes;
+mod task;
+mod top;
+mod work;
 
+pub use document::{Document, read_document};
 pub use status::Status;
 pub use takes::Takes;
+pub use task::Task;
+pub use top::serve;

@@ -1,8 +1,7 @@
 //! The work between reading and writing.
 
 ghost use Rattle.std.specs.Prelude.{◌≡◌, ◌≤◌, length, OnOk};
-ghost use Rattle.mc_top.specs.Documents.{spelled_circuit};
-ghost use Rattle.mc_top.specs.Serve.{Gives, Means, due_for};
+ghost use Rattle.mc_top.specs.Serve.{Gives, Means, HasTableAtEachBranch, due_for, due_translation};
 
 use crate::document::{Document, read_document};
 use crate::takes::Takes;
@@ -24,16 +23,26 @@ pub(crate) fn answer(alloc: Global, task: Task, text: &[u8]) -> Result<Vec<u8>, 
     }
 }
 
+/// The pattern of the circuit that a text spells.
 fn answer_translate(alloc: Global, text: &[u8]) -> Result<Vec<u8>, TextEnd>
+    requires { length text.now ≤ 8_388_608 }
+    ensures due { Gives result (due_for Task.Translate text.now) }
+    ensures meaning { OnOk result (Means Task.Translate text.now) }
 {
     let takes = Takes { circuit: true };
-    let document: Document<4> = read_document(alloc, text, takes)?;
-    let Document::Circuit(circuit) = document;
-    print_translation(alloc, &circuit)
+    let document: Document<4> = match read_document(alloc, text, takes) {
+        Ok(document) => document,
+        Err(end) => return Err(end),
+    };
+    match document {
+        Document::Circuit(circuit) => print_translation(alloc, &circuit),
+    }
 }
 
 /// The text of the translation of a circuit.
 fn print_translation(alloc: Global, circuit: &Circuit<4>) -> Result<Vec<u8>, TextEnd>
+    ensures due { Gives result (due_translation circuit.now) }
+    ensures meaning { OnOk result (HasTableAtEachBranch circuit.now) }
 {
     let pattern = match translate(alloc, circuit) {
         Ok(pattern) => pattern,
