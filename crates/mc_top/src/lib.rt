@@ -6,6 +6,8 @@ mod note;
 mod status;
 mod takes;
 mod task;
+#[cfg(test)]
+mod tests;
 mod top;
 mod work;
 
@@ -13,4 +15,4 @@ pub use document::{Document, read_document};
 pub use status::Status;
 pub use takes::Takes;
 pub use task::Task;
-pub use top::serve;
+pub use top::{serve, serve_bytes};

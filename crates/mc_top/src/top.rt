@@ -1,19 +1,19 @@
 //! From the words and the source to the answer, the note and the status.
 
-ghost use Rattle.std.specs.Prelude.{◌≡◌, ◌↔◌, ◌≤◌, map, Err, Some, None, IfSome, IsTrue, is_some};
+ghost use Rattle.std.specs.Prelude.{◌≡◌, ◌≢◌, ◌⊎◌, ◌↔◌, ◌≤◌, map, Err, Some, None, IfSome, IsTrue, is_some};
 ghost use Rattle.std.specs.String.{string_bytes};
 ghost use Rattle.std.specs.Io.KnownBytes.{IsAtEnd};
 ghost use Rattle.mc_io.specs.Faults.{Rose};
 ghost use Rattle.mc_io.specs.Told.{TakesAtMost, TellsAsBefore};
 ghost use Rattle.mc_top.specs.Status.{note_of};
 ghost use Rattle.mc_top.specs.Tasks.{task_in, IsListed};
-ghost use Rattle.mc_top.specs.Serve.{IsStatus, IsAnswered, IsUnwritten, Writes, Notes, Means, due_of};
+ghost use Rattle.mc_top.specs.Serve.{IsStatus, IsAnswered, IsUnwritten, Writes, Notes, Means, due_of, status_of};
 
 use crate::note::note as status_line;
 use crate::status::Status;
 use crate::task::{Task, task_of};
 use crate::work::answer;
-use mc_io::{ReadEnd, Sink, Source, read_all, write_all};
+use mc_io::{HonestSink, HonestSource, ReadEnd, Sink, Source, read_all, write_all};
 use std::alloc::Global;
 
 /// The most bytes of a text.
@@ -102,4 +102,21 @@ pub fn serve<S: Source, K: Sink, E: Sink>(
     let line = status_line(&status);
     let _ = write_all(note, line.as_slice());
     status
+}
+
+/// Serves over bytes and a sink in memory. No call of theirs fails, so the status is the one that is due, or `Memory`.
+pub fn serve_bytes<E: Sink>(
+    alloc: Global,
+    words: &[String],
+    source: &mut HonestSource,
+    out: &mut HonestSink,
+    note: &mut E,
+) -> Status
+    ensures usage { (result ≡ Status.Usage) ↔ (¬ IsListed (map string_bytes words.now)) }
+    ensures status { IfSome (task_in (map string_bytes words.now)) (λ task.
+        (result ≡ status_of (due_of task source.old)) ⊎ (result ≡ Status.Memory)) }
+    ensures no_read_fault { result ≢ Status.ReadFault }
+    ensures no_write_fault { result ≢ Status.WriteFault }
+{
+    serve(alloc, words, source, out, note)
 }
