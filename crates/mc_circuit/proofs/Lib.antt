@@ -1,2 +1,5 @@
 pub mod Building
 pub mod Printing
+pub mod Operands
+pub mod Moving
+pub mod Keeping

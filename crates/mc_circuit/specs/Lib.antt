@@ -1,3 +1,7 @@
 pub mod Gates
 pub mod Circuits
 pub mod Canonical
+pub mod Roles
+pub mod Value
+pub mod Judge
+pub mod Kept

@@ -4,3 +4,4 @@ pub mod Done
 pub mod Heading
 pub mod Numbers
 pub mod Kept
+pub mod Listed
