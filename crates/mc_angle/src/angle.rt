@@ -38,7 +38,8 @@ impl<const H: usize> Angle<H> {
         }
     }
 
-    /// The angle that a word spells as an optional `-` and 1 to 4 digits, which count steps; `None` for any other word.
+    /// The angle that a word spells as an optional `-` and 1 to 4 digits, which count steps; `None`
+    /// for any other word.
     pub fn read(word: &[u8]) -> Option<Angle<H>>
         requires { IsTrue (is_permitted H) }
         ensures angle { is_some result ≡ is_angle word.now }

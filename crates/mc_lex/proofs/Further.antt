@@ -1,5 +1,5 @@
 -- Standing further on in a text.
-use Rattle.std.proofs.Common.{◌≡◌, ℕ, zero, suc, ◌+◌, List, [], ◌∷◌, refl, sym, ap, ◌∙◌, arith}
+use Rattle.std.proofs.Common.{◌≡◌, ℕ, zero, suc, ◌+◌, List, [], ◌∷◌, refl, ap, ◌∙◌, arith}
 use Rattle.mc_lex.specs.Lines.{Line}
 use Rattle.mc_lex.specs.Left.{Left, on_first, passed, tokens_on, lines_on, IsFurther}
 
@@ -34,7 +34,7 @@ further-line left old new e further =
       lines = suc further.lines;
       tokens = 0;
       stands = e ∙ ap (λ (l : Left). on_first l.later l.last) further.stands
-        ∙ next_kept further.tokens (lines_on further.lines left);
+          ∙ next_kept further.tokens (lines_on further.lines left);
     }
 
 tokens_more : (j k : ℕ) (left : Left) → tokens_on j (tokens_on k left) ≡ tokens_on (j + k) left
@@ -64,7 +64,7 @@ further_by (suc m) j n k left =
       lines = suc m + n;
       tokens = j;
       stands =
-        ap (tokens_on j) (lines_behind m k (lines_on n left) ∙ lines_more (suc m) n left);
+          ap (tokens_on j) (lines_behind m k (lines_on n left) ∙ lines_more (suc m) n left);
     }
 
 pub further-further : (left mid right : Left) → IsFurther left mid → IsFurther mid right
@@ -72,8 +72,8 @@ pub further-further : (left mid right : Left) → IsFurther left mid → IsFurth
 further-further left mid right f g =
     let by = further_by g.lines g.tokens f.lines f.tokens left in
     let e : right
-          ≡ tokens_on g.tokens (lines_on g.lines (tokens_on f.tokens (lines_on f.lines left))) =
-          g.stands ∙ ap (λ (l : Left). tokens_on g.tokens (lines_on g.lines l)) f.stands in
+    ≡ tokens_on g.tokens (lines_on g.lines (tokens_on f.tokens (lines_on f.lines left))) =
+    g.stands ∙ ap (λ (l : Left). tokens_on g.tokens (lines_on g.lines l)) f.stands in
     record { lines = by.lines; tokens = by.tokens; stands = e ∙ by.stands }
 
 -- on in the line behind the next line feed
@@ -95,4 +95,4 @@ lines_end_kept (suc n) left =
 pub further-end : (left right : Left) → IsFurther left right → right.last ≡ left.last
 further-end left right f =
     ap (λ (l : Left). l.last) f.stands ∙ end_kept f.tokens (lines_on f.lines left)
-      ∙ lines_end_kept f.lines left
+    ∙ lines_end_kept f.lines left

@@ -11,7 +11,8 @@ use Rattle.mc_model.proofs.PhaseLemmas.{turn-add, turn_comm, turn-sum, turn-nega
 use Rattle.mc_model.proofs.AmplitudeLemmas.{after-append}
 
 module _ {E : Type 0} (ops : PhaseOps E) (laws : PhaseLaws ops) where
-  pub act-turn : (o : Bits) (c : Command) (k : ℕ) (f : Amps E) (x : Bits) → act ops o c (λ y. turn ops k (f y)) x ≡ turn ops k (act ops o c f x)
+  pub act-turn : (o : Bits) (c : Command) (k : ℕ) (f : Amps E) (x : Bits) →
+      act ops o c (λ y. turn ops k (f y)) x ≡ turn ops k (act ops o c f x)
   unfolding act
   act-turn o (Prep i) k f x = refl
   act-turn o (Ent i j) k f x = sign-turn ops laws (x i && x j) k (f x)
@@ -19,29 +20,36 @@ module _ {E : Type 0} (ops : PhaseOps E) (laws : PhaseLaws ops) where
   act-turn o (FixZ i s) k f x = sign-turn ops laws (x i && value s o) k (f x)
   act-turn o (Meas i a s t) k f x =
       ap (λ (e : E). ops.add (turn ops k (f (replaced x i false))) e)
-      (ap (turn ops _) (sign-turn ops laws (o i) k (f (replaced x i true))) ∙ turn_comm ops laws _ k _)
+      (ap (turn ops _) (sign-turn ops laws (o i) k (f (replaced x i true)))
+      ∙ turn_comm ops laws _ k _)
       ∙ sym (turn-sum ops laws k _ _)
 
-  pub after-turn : (o : Bits) (cs : List Command) (k : ℕ) (f : Amps E) (x : Bits) → after ops o cs (λ y. turn ops k (f y)) x ≡ turn ops k (after ops o cs f x)
+  pub after-turn : (o : Bits) (cs : List Command) (k : ℕ) (f : Amps E) (x : Bits) →
+      after ops o cs (λ y. turn ops k (f y)) x ≡ turn ops k (after ops o cs f x)
   unfolding after
   after-turn o [] k f x = refl
   after-turn o (c ∷ cs) k f x =
-      ap (λ (g : Amps E). after ops o cs g x) (fun_ext (act-turn o c k f)) ∙ after-turn o cs k (act ops o c f) x
+      ap (λ (g : Amps E). after ops o cs g x) (fun_ext (act-turn o c k f))
+      ∙ after-turn o cs k (act ops o c f) x
 
   pub alike_itself : (o : Bits) (cs : List Command) → AlikeCommands ops o cs cs
   unfolding turn
   alike_itself o cs = record { phase = 0; same = λ f x. refl }
 
-  pub alike_back : (o : Bits) (cs ds : List Command) → AlikeCommands ops o cs ds → AlikeCommands ops o ds cs
+  pub alike_back : (o : Bits) (cs ds : List Command) → AlikeCommands ops o cs ds →
+      AlikeCommands ops o ds cs
   alike_back o cs ds h = record {
     phase = negated ops.half h.phase;
-    same = λ f x. sym (turn-negated ops laws h.phase _) ∙ ap (turn ops (negated ops.half h.phase)) (sym (h.same f x));
+    same = λ f x. sym (turn-negated ops laws h.phase _)
+        ∙ ap (turn ops (negated ops.half h.phase)) (sym (h.same f x));
   }
 
-  pub alike_on : (o : Bits) (cs ds es : List Command) → AlikeCommands ops o cs ds → AlikeCommands ops o ds es → AlikeCommands ops o cs es
+  pub alike_on : (o : Bits) (cs ds es : List Command) → AlikeCommands ops o cs ds →
+      AlikeCommands ops o ds es → AlikeCommands ops o cs es
   alike_on o cs ds es h k = record {
     phase = h.phase + k.phase;
-    same = λ f x. h.same f x ∙ ap (turn ops h.phase) (k.same f x) ∙ sym (turn-add ops laws h.phase k.phase _);
+    same = λ f x. h.same f x ∙ ap (turn ops h.phase) (k.same f x)
+        ∙ sym (turn-add ops laws h.phase k.phase _);
   }
 
   -- in the middle of a list
@@ -51,10 +59,13 @@ module _ {E : Type 0} (ops : PhaseOps E) (laws : PhaseLaws ops) where
     phase = h.phase;
     same = λ f x.
         let g : Amps E = after ops o before f in
-        ap (λ (p : Amps E). p x) (after-append ops laws o before (cs ++ behind) f ∙ after-append ops laws o cs behind g)
+        ap (λ (p : Amps E). p x)
+        (after-append ops laws o before (cs ++ behind) f ∙ after-append ops laws o cs behind g)
         ∙ ap (λ (p : Amps E). after ops o behind p x) (fun_ext (h.same g))
         ∙ after-turn o behind h.phase (after ops o ds g) x
-        ∙ ap (λ (p : Amps E). turn ops h.phase (p x)) (sym (after-append ops laws o before (ds ++ behind) f ∙ after-append ops laws o ds behind g));
+        ∙ ap (λ (p : Amps E). turn ops h.phase (p x))
+        (sym (after-append ops laws o before (ds ++ behind) f
+        ∙ after-append ops laws o ds behind g));
   }
 
   -- one phase for all entries of a branch map

@@ -9,7 +9,8 @@ use Rattle.mc_model.specs.Alike.{AlikeAmps}
 use Rattle.mc_model.proofs.PhaseLemmas.{turn-modulo}
 
 module _ {E : Type 0} (ops : PhaseOps E) (laws : PhaseLaws ops) where
-  pub after-append : (o : Bits) (cs ds : List Command) (f : Amps E) → after ops o (cs ++ ds) f ≡ after ops o ds (after ops o cs f)
+  pub after-append : (o : Bits) (cs ds : List Command) (f : Amps E) →
+      after ops o (cs ++ ds) f ≡ after ops o ds (after ops o cs f)
   unfolding after
   after-append o [] ds f = refl
   after-append o (c ∷ cs) ds f = after-append o cs ds (act ops o c f)
@@ -20,13 +21,19 @@ module _ {E : Type 0} (ops : PhaseOps E) (laws : PhaseLaws ops) where
   after-preparations o q (suc n) f = after-preparations o (suc q) n f
 
   -- the amplitudes of a list by its last command
-  pub after_last : (o : Bits) (cs : List Command) (c : Command) (f : Amps E) → after ops o (cs ++ (c ∷ [])) f ≡ act ops o c (after ops o cs f)
+  pub after_last : (o : Bits) (cs : List Command) (c : Command) (f : Amps E) →
+      after ops o (cs ++ (c ∷ [])) f ≡ act ops o c (after ops o cs f)
   unfolding after
   after_last o [] c f = refl
   after_last o (d ∷ cs) c f = after_last o cs c (act ops o d f)
 
   -- one of the phases from 0 to `2 * half - 1` serves
-  pub least_turns : (f g : Amps E) (h : AlikeAmps ops f g) → (k : ℕ) × (k < 2 * ops.half) × ((x : Bits) → f x ≡ turn ops k (g x))
+  pub least_turns : (f g : Amps E) (h : AlikeAmps ops f g) →
+      (k : ℕ) × (k < 2 * ops.half) × ((x : Bits) → f x ≡ turn ops k (g x))
   least_turns f g h =
-      let p = laws.half_positive in
-      (h.phase % (2 * ops.half), omega arith, λ x. h.same x ∙ sym (turn-modulo ops laws h.phase (g x)))
+      let p = laws.half_positive in (
+        h.phase % (2 * ops.half),
+        omega arith,
+        λ x. h.same x
+            ∙ sym (turn-modulo ops laws h.phase (g x)),
+      )

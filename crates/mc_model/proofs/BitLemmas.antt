@@ -33,10 +33,12 @@ xor_twice a b = grind arith
 pub xor_middle : (a b c d : Bool) → (a ⊻ b) ⊻ (c ⊻ d) ≡ (a ⊻ c) ⊻ (b ⊻ d)
 xor_middle a b c d = grind arith
 
-pub replaced_again : (x : Bits) (i : ℕ) (b c : Bool) → replaced (replaced x i b) i c ≡ replaced x i c
+pub replaced_again : (x : Bits) (i : ℕ) (b c : Bool) →
+    replaced (replaced x i b) i c ≡ replaced x i c
 replaced_again x i b c = fun_ext λ k. elim (cases_Bool (nat_eq k i)) [ inl e ↦ rw e | inr e ↦ rw e ]
 
-pub replaced_swap : (x : Bits) (i j : ℕ) (b c : Bool) → (i ≡ j → ⊥) → replaced (replaced x i b) j c ≡ replaced (replaced x j c) i b
+pub replaced_swap : (x : Bits) (i j : ℕ) (b c : Bool) → (i ≡ j → ⊥) →
+    replaced (replaced x i b) j c ≡ replaced (replaced x j c) i b
 replaced_swap x i j b c ne = fun_ext λ k. elim (cases_eq k i) [
   | inl e ↦ rw (e, eq-eqb i i refl, ne_eqb i j ne)
   | inr n ↦ rw (ne_eqb k i n)

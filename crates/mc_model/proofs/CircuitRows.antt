@@ -1,10 +1,10 @@
 -- Worked circuits and patterns, computed.
-use Rattle.std.proofs.Common.{◌≡◌, ℕ, Bool, true, false, List, [], ◌∷◌, refl, codes, arith}
+use Rattle.std.proofs.Common.{◌≡◌, Bool, true, false, List, [], ◌∷◌, refl, codes, arith}
 use Rattle.std.specs.Prelude.{ℤ, pos, negsuc}
 use Rattle.std.specs.Fmt.{digits}
 use Rattle.mc_model.specs.Names.{Name}
 use Rattle.mc_model.specs.Numbers.{pairs_at, pairs_below}
-use Rattle.mc_model.specs.Bits.{◌⊻◌, Bits, parity}
+use Rattle.mc_model.specs.Bits.{◌⊻◌, parity}
 use Rattle.mc_model.specs.Signals.{Signal, value, signal_of, no_signal, toggled, toggled_all}
 use Rattle.mc_model.specs.Phase.{turn, negated}
 use Rattle.mc_model.specs.Ring.{ring}
@@ -157,7 +157,8 @@ pub three_gates_standard : standard_form (translation 4 (record {
 unfolding digits negated translation translated last_qubits preparations j_count sum_over_places x_part x_sum first_part second_part first_sum second_sum preparations_of is_edge pairs_at pairs_below measurements_with corrections_below standard_commands standard_form prepared measured toggled toggled_all
 three_gates_standard = refl
 
--- its change is that of the third outcome by the first, and its shifted form corrects by the first and the third
+-- its change is that of the third outcome by the first, and its shifted form corrects by the first
+-- and the third
 abbrev pub three_gates_rows : List ChangeRow
 three_gates_rows =
     (record { qubit = 0; signal = no_signal }) ∷ (record { qubit = 1; signal = no_signal })

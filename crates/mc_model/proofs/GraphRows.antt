@@ -1,13 +1,13 @@
 -- Worked graphs, computed.
 use Rattle.std.proofs.Common.{◌≡◌, ℕ, zero, suc, Bool, true, false, List, [], ◌∷◌, refl, codes}
-use Rattle.std.specs.Prelude.{ℤ, pos, negsuc, map, Option, Some, None}
+use Rattle.std.specs.Prelude.{ℤ, pos, negsuc, map, Some, None}
 use Rattle.mc_model.specs.Names.{Name}
 use Rattle.mc_model.specs.Numbers.{is_member, numbers_from, pairs_at, pairs_below}
 use Rattle.mc_model.specs.Bits.{Bits, parity, all_zero}
-use Rattle.mc_model.specs.Signals.{signal_of, no_signal, toggled, toggled_all, value}
-use Rattle.mc_model.specs.Phase.{turn, negated}
+use Rattle.mc_model.specs.Signals.{signal_of, no_signal}
+use Rattle.mc_model.specs.Phase.{negated}
 use Rattle.mc_model.specs.Ring.{ring}
-use Rattle.mc_model.specs.Pattern.{Prep, Ent, Meas, FixX, FixZ, J, CZ, Pattern, Circuit}
+use Rattle.mc_model.specs.Pattern.{Prep, Ent, Meas, FixX, FixZ, J, CZ}
 use Rattle.mc_model.specs.Amplitude.{start, act, after, amp, branch_map, placed}
 use Rattle.mc_model.specs.Translation.{preparations}
 use Rattle.mc_model.specs.StandardForm.{is_edge}
@@ -43,15 +43,18 @@ chain_layer (suc (suc zero)) = 1
 chain_layer (suc (suc (suc n))) = 0
 
 -- the odd neighbourhoods of the three sets
-pub chain_odd_a : table 4 (odd_neighbourhood chain (chain_sets 0)) ≡ true ∷ false ∷ false ∷ false ∷ []
+pub chain_odd_a : table 4 (odd_neighbourhood chain (chain_sets 0))
+    ≡ true ∷ false ∷ false ∷ false ∷ []
 unfolding parity joins
 chain_odd_a = refl
 
-pub chain_odd_b : table 4 (odd_neighbourhood chain (chain_sets 1)) ≡ false ∷ true ∷ false ∷ true ∷ []
+pub chain_odd_b : table 4 (odd_neighbourhood chain (chain_sets 1))
+    ≡ false ∷ true ∷ false ∷ true ∷ []
 unfolding parity joins
 chain_odd_b = refl
 
-pub chain_odd_c : table 4 (odd_neighbourhood chain (chain_sets 2)) ≡ false ∷ false ∷ true ∷ false ∷ []
+pub chain_odd_c : table 4 (odd_neighbourhood chain (chain_sets 2))
+    ≡ false ∷ false ∷ true ∷ false ∷ []
 unfolding parity joins
 chain_odd_c = refl
 

@@ -1,8 +1,8 @@
 -- Sums of bits over the numbers below a bound.
-use Rattle.std.specs.Prelude.{◌≡◌, ◌≢◌, ◌⊎◌, ℕ, zero, suc, ◌<◌, Bool, true, false, not, ◌&&◌, refl, List, [], ◌∷◌}
+use Rattle.std.specs.Prelude.{◌≡◌, ◌≢◌, ◌⊎◌, ℕ, zero, suc, ◌<◌, Bool, true, false, ◌&&◌, refl}
 use Rattle.std.proofs.Common.{arith, sym, ap, ap₂, subst, ◌∙◌, inl, inr}
 use Rattle.mc_model.specs.Bits.{◌⊻◌, Bits, parity, odd}
-use Rattle.mc_model.proofs.BitLemmas.{xor_middle, xor_false}
+use Rattle.mc_model.proofs.BitLemmas.{xor_middle}
 
 pub and_xor : (a b c : Bool) → a && (b ⊻ c) ≡ (a && b) ⊻ (a && c)
 and_xor a b c = grind arith

@@ -2,10 +2,10 @@
 use Rattle.std.specs.Prelude.{◌≡◌, ◌≢◌, ℕ, zero, suc, ◌<◌, Bool, true, false, ◌&&◌, refl, nat_eq, List, [], ◌∷◌, ◌||◌, ◌⊎◌}
 use Rattle.std.proofs.Common.{arith, sym, ap, ap₂, subst, ◌∙◌, inl, inr}
 use Rattle.std.proofs.lemmas.Bool.{eq-eqb, eqb-true, true≢false}
-use Rattle.mc_model.specs.Bits.{◌⊻◌, Bits, odd, same_pair}
-use Rattle.mc_model.specs.Graph.{Edge, OpenGraph, size, is_input, is_output, joins, odd_neighbourhood}
-use Rattle.mc_model.specs.Flow.{IsFlow, CorrectsAt, IsCausalFlow, single, IsRefuter, RefutesAt, IsStuckSet, IsOnlyNeighbour}
-use Rattle.mc_model.proofs.OddSums.{odd-same, odd-none, odd-and, odd-exchange, odd-one, and_swap, and_false}
+use Rattle.mc_model.specs.Bits.{◌⊻◌, Bits, odd}
+use Rattle.mc_model.specs.Graph.{Edge, OpenGraph, size, joins, odd_neighbourhood}
+use Rattle.mc_model.specs.Flow.{IsFlow, CorrectsAt, IsCausalFlow, single, IsRefuter, RefutesAt, IsStuckSet}
+use Rattle.mc_model.proofs.OddSums.{odd-same, odd-none, odd-and, odd-exchange, odd-one, and_swap}
 
 same_pair_swap : (a b c d : Bool) → (a && b) || (c && d) ≡ (d && c) || (b && a)
 same_pair_swap a b c d = grind arith
@@ -102,7 +102,8 @@ odd_of_single g w v l = by (joins g.edges v w) refl
     by false e =
         odd-none (size g) term
         (λ j i. and_by (single w j) (joins g.edges v j) (λ p q.
-        clash (joins g.edges v w) (subst (λ (k : ℕ). joins g.edges v k ≡ true) (eqb-true j w p) q) e))
+        clash (joins g.edges v w) (subst (λ (k : ℕ). joins g.edges v k ≡ true) (eqb-true j w p) q)
+        e))
         ∙ sym e
 
 stuck_at : (g : OpenGraph) (B : Bits) (layer : ℕ → ℕ) (w u : ℕ) → u < size g → B u ≡ true →

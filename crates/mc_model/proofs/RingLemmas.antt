@@ -1,12 +1,13 @@
--- The amplitude ring is a commutative ring with an element `w` for which `w ^ half = -1`, at every `half` above 0.
-use Rattle.std.specs.Prelude.{◌≡◌, ℕ, zero, suc, ◌+◌, ◌*◌, ◌≤◌, ◌<◌, ℤ, pos, ◌+ℤ◌, refl, List, [], ◌∷◌, ◌++◌, length}
-use Rattle.std.proofs.Common.{arith, sym, ap, subst, ◌∙◌, append_assoc, append-nil}
+-- The amplitude ring is a commutative ring with an element `w` for which `w ^ half = -1`, at every
+-- `half` above 0.
+use Rattle.std.specs.Prelude.{◌≡◌, ℕ, zero, suc, ◌+◌, ◌<◌, ℤ, pos, ◌+ℤ◌, refl, List, [], ◌∷◌, ◌++◌, length}
+use Rattle.std.proofs.Common.{arith, sym, ap, ◌∙◌, append_assoc, append-nil}
 use Rattle.std.proofs.lemmas.Int.{ints}
 use lib.IntN.{◌*ℤ◌, neg_ℤ}
 use native.Mathlib.Nat.{ℕ_set}
 use mathlib.Core.HLevel.{is_prop→PathP}
 use Rattle.mc_model.specs.Phase.{PhaseLaws, turn}
-use Rattle.mc_model.specs.Ring.{Element, ring, product, root_two, IsCommutativeRing, plus, minus, scaled, zeros, behind, final, rotated, rotations, times, unit, length-zeros, length-unit, length-plus, length-minus, length-scaled, length-behind, length-times}
+use Rattle.mc_model.specs.Ring.{Element, ring, IsCommutativeRing, plus, minus, scaled, zeros, behind, final, rotated, rotations, times, unit, length-zeros, length-plus, length-scaled, length-behind, length-times}
 use Rattle.mc_model.proofs.WholeNumbers.{mul_add, mul_assoc, mul_comm, mul_zero, mul_one, mul_neg}
 
 -- ---- sums
@@ -29,7 +30,9 @@ plus_assoc (x ∷ xs) (y ∷ ys) (z ∷ zs) = cons _ _ _ _ (omega (arith, ints))
 -- (a + b) + (c + d) = (a + c) + (b + d)
 pub plus_middle : (a b c d : List ℤ) → plus (plus a b) (plus c d) ≡ plus (plus a c) (plus b d)
 plus_middle a b c d =
-    plus_assoc a b (plus c d) ∙ ap (plus a) (sym (plus_assoc b c d) ∙ ap (λ t. plus t d) (plus_comm b c) ∙ plus_assoc c b d) ∙ sym (plus_assoc a c (plus b d))
+    plus_assoc a b (plus c d)
+    ∙ ap (plus a) (sym (plus_assoc b c d) ∙ ap (λ t. plus t d) (plus_comm b c)
+    ∙ plus_assoc c b d) ∙ sym (plus_assoc a c (plus b d))
 
 pub plus_zeros : (a : List ℤ) → plus a (zeros (length a)) ≡ a
 plus_zeros [] = refl
@@ -41,12 +44,14 @@ plus_minus (x ∷ xs) = cons _ _ _ _ (omega (arith, ints)) (plus_minus xs)
 
 -- ---- w is linear
 
-pub behind_plus : (c d : ℤ) (a b : List ℤ) → behind (c +ℤ d) (plus a b) ≡ plus (behind c a) (behind d b)
+pub behind_plus : (c d : ℤ) (a b : List ℤ) →
+    behind (c +ℤ d) (plus a b) ≡ plus (behind c a) (behind d b)
 behind_plus c d [] b = refl
 behind_plus c d (x ∷ xs) [] = refl
 behind_plus c d (x ∷ xs) (y ∷ ys) = ap (λ t. (c +ℤ d) ∷ t) (behind_plus x y xs ys)
 
-pub final_plus : (c d : ℤ) (a b : List ℤ) → length a ≡ length b → final (c +ℤ d) (plus a b) ≡ final c a +ℤ final d b
+pub final_plus : (c d : ℤ) (a b : List ℤ) → length a ≡ length b →
+    final (c +ℤ d) (plus a b) ≡ final c a +ℤ final d b
 final_plus c d [] [] e = refl
 final_plus c d [] (y ∷ ys) e = absurd (omega arith)
 final_plus c d (x ∷ xs) [] e = absurd (omega arith)
@@ -55,9 +60,12 @@ final_plus c d (x ∷ xs) (y ∷ ys) e = final_plus x y xs ys (omega arith)
 neg_plus : (a b : ℤ) → neg_ℤ (a +ℤ b) ≡ neg_ℤ a +ℤ neg_ℤ b
 neg_plus a b = omega (arith, ints)
 
-pub rotated_plus : (a b : List ℤ) → length a ≡ length b → rotated (plus a b) ≡ plus (rotated a) (rotated b)
+pub rotated_plus : (a b : List ℤ) → length a ≡ length b →
+    rotated (plus a b) ≡ plus (rotated a) (rotated b)
 rotated_plus a b e =
-    ap (λ c. behind (neg_ℤ c) (plus a b)) (final_plus (pos 0) (pos 0) a b e) ∙ ap (λ c. behind c (plus a b)) (neg_plus (final (pos 0) a) (final (pos 0) b)) ∙ behind_plus _ _ a b
+    ap (λ c. behind (neg_ℤ c) (plus a b)) (final_plus (pos 0) (pos 0) a b e)
+    ∙ ap (λ c. behind c (plus a b)) (neg_plus (final (pos 0) a) (final (pos 0) b))
+    ∙ behind_plus _ _ a b
 
 pub behind_scaled : (x c : ℤ) (a : List ℤ) → behind (x *ℤ c) (scaled x a) ≡ scaled x (behind c a)
 behind_scaled x c [] = refl
@@ -83,7 +91,9 @@ scaled_plus x (y ∷ ys) (z ∷ zs) = cons _ _ _ _ (mul_add x y z) (scaled_plus 
 
 pub scaled_scaled : (x y : ℤ) (a : List ℤ) → scaled x (scaled y a) ≡ scaled y (scaled x a)
 scaled_scaled x y [] = refl
-scaled_scaled x y (z ∷ zs) = cons _ _ _ _ (sym (mul_assoc x y z) ∙ ap (λ t. t *ℤ z) (mul_comm x y) ∙ mul_assoc y x z) (scaled_scaled x y zs)
+scaled_scaled x y (z ∷ zs) =
+    cons _ _ _ _ (sym (mul_assoc x y z) ∙ ap (λ t. t *ℤ z) (mul_comm x y) ∙ mul_assoc y x z)
+    (scaled_scaled x y zs)
 
 length-rotated : (a : List ℤ) → length (rotated a) ≡ length a
 length-rotated a = length-behind (neg_ℤ (final (pos 0) a)) a
@@ -92,12 +102,15 @@ zeros_twice : (n : ℕ) → plus (zeros n) (zeros n) ≡ zeros n
 zeros_twice zero = refl
 zeros_twice (suc n) = ap (λ t. pos 0 ∷ t) (zeros_twice n)
 
-pub times_plus : (a b c : List ℤ) → length b ≡ length c → times a (plus b c) ≡ plus (times a b) (times a c)
-times_plus [] b c e = ap zeros (length-plus b c e) ∙ sym (zeros_twice (length b)) ∙ ap (λ n. plus (zeros (length b)) (zeros n)) e
+pub times_plus : (a b c : List ℤ) → length b ≡ length c →
+    times a (plus b c) ≡ plus (times a b) (times a c)
+times_plus [] b c e = ap zeros (length-plus b c e) ∙ sym (zeros_twice (length b))
+    ∙ ap (λ n. plus (zeros (length b)) (zeros n)) e
 times_plus (x ∷ a) b c e =
     ap (λ t. plus (scaled x (plus b c)) (rotated t)) (times_plus a b c e)
     ∙ ap (λ t. plus t (rotated (plus (times a b) (times a c)))) (scaled_plus x b c)
-    ∙ ap (plus (plus (scaled x b) (scaled x c))) (rotated_plus (times a b) (times a c) (length-times a b ∙ e ∙ sym (length-times a c)))
+    ∙ ap (plus (plus (scaled x b) (scaled x c)))
+    (rotated_plus (times a b) (times a c) (length-times a b ∙ e ∙ sym (length-times a c)))
     ∙ plus_middle (scaled x b) (scaled x c) (rotated (times a b)) (rotated (times a c))
 
 scaled_zeros : (x : ℤ) (n : ℕ) → scaled x (zeros n) ≡ zeros n
@@ -128,7 +141,8 @@ times_rotated [] b = ap zeros (length-rotated b) ∙ sym (rotated_zeros (length 
 times_rotated (x ∷ a) b =
     ap (λ t. plus (scaled x (rotated b)) (rotated t)) (times_rotated a b)
     ∙ ap (λ t. plus t (rotated (rotated (times a b)))) (sym (rotated_scaled x b))
-    ∙ sym (rotated_plus (scaled x b) (rotated (times a b)) (length-scaled x b ∙ sym (length-rotated (times a b) ∙ length-times a b)))
+    ∙ sym (rotated_plus (scaled x b) (rotated (times a b))
+    (length-scaled x b ∙ sym (length-rotated (times a b) ∙ length-times a b)))
 
 pub times_zeros : (a : List ℤ) (n : ℕ) → times a (zeros n) ≡ zeros n
 times_zeros [] n = ap zeros (length-zeros n)
@@ -143,7 +157,8 @@ pub times_times : (a b c : List ℤ) → times a (times b c) ≡ times b (times 
 times_times [] b c = ap zeros (length-times b c) ∙ sym (times_zeros b (length c))
 times_times (x ∷ a) b c =
     sym (ap (times b) refl
-    ∙ times_plus b (scaled x c) (rotated (times a c)) (length-scaled x c ∙ sym (length-rotated (times a c) ∙ length-times a c))
+    ∙ times_plus b (scaled x c) (rotated (times a c))
+    (length-scaled x c ∙ sym (length-rotated (times a c) ∙ length-times a c))
     ∙ ap (λ t. plus t (times b (rotated (times a c)))) (times_scaled b x c)
     ∙ ap (plus (scaled x (times b c))) (times_rotated b (times a c))
     ∙ ap (λ t. plus (scaled x (times b c)) (rotated t)) (sym (times_times a b c)))
@@ -164,7 +179,8 @@ final_filled c [] n = final_zeros n
 final_filled c (x ∷ xs) n = final_filled x xs n
 
 rotated_filled : (a : List ℤ) (n : ℕ) → rotated (filled a (suc n)) ≡ pos 0 ∷ filled a n
-rotated_filled a n = ap (λ c. behind (neg_ℤ c) (filled a (suc n))) (final_filled (pos 0) a n) ∙ behind_filled (pos 0) a n
+rotated_filled a n = ap (λ c. behind (neg_ℤ c) (filled a (suc n))) (final_filled (pos 0) a n)
+    ∙ behind_filled (pos 0) a n
 
 length-filled : (a : List ℤ) (n : ℕ) → length (filled a n) ≡ length a + n
 length-filled [] n = length-zeros n ∙ omega arith
@@ -174,12 +190,18 @@ length-filled (x ∷ xs) n = ap suc (length-filled xs n) ∙ omega arith
 zeros_plus : (a : List ℤ) → plus (zeros (length a)) a ≡ a
 zeros_plus a = plus_comm (zeros (length a)) a ∙ plus_zeros a
 
-times_unit_filled : (a : List ℤ) (n k : ℕ) → length a + n ≡ suc k → times a (unit (suc k)) ≡ filled a n
+times_unit_filled : (a : List ℤ) (n k : ℕ) → length a + n ≡ suc k →
+    times a (unit (suc k)) ≡ filled a n
 times_unit_filled [] n k e = ap zeros (ap suc (length-zeros k) ∙ sym e ∙ omega arith)
 times_unit_filled (x ∷ a) n k e =
-    ap (λ t. plus (scaled x (unit (suc k))) (rotated t)) (times_unit_filled a (suc n) k (omega arith))
+    ap (λ t. plus (scaled x (unit (suc k))) (rotated t))
+    (times_unit_filled a (suc n) k (omega arith))
     ∙ ap (plus (scaled x (unit (suc k)))) (rotated_filled a n)
-    ∙ cons _ _ _ _ (ap (λ t. t +ℤ pos 0) (mul_one x) ∙ omega (arith, ints)) (ap (λ t. plus t (filled a n)) (scaled_zeros x k ∙ ap zeros (let f : k ≡ length a + n = omega arith in f ∙ sym (length-filled a n))) ∙ zeros_plus (filled a n))
+    ∙ cons _ _ _ _ (ap (λ t. t +ℤ pos 0) (mul_one x) ∙ omega (arith, ints))
+    (ap (λ t. plus t (filled a n))
+    (scaled_zeros x k
+    ∙ ap zeros (let f : k ≡ length a + n = omega arith in f
+    ∙ sym (length-filled a n))) ∙ zeros_plus (filled a n))
 
 filled_none : (a : List ℤ) → filled a 0 ≡ a
 filled_none [] = refl
@@ -190,12 +212,16 @@ times_unit a k e = times_unit_filled a 0 k (omega arith) ∙ filled_none a
 
 -- ---- the laws of a commutative ring
 
-pub times_comm : (a b : List ℤ) (k : ℕ) → length a ≡ suc k → length b ≡ suc k → times a b ≡ times b a
-times_comm a b k e f = ap (times a) (sym (times_unit b k f)) ∙ times_times a b (unit (suc k)) ∙ ap (times b) (times_unit a k e)
+pub times_comm : (a b : List ℤ) (k : ℕ) → length a ≡ suc k → length b ≡ suc k →
+    times a b ≡ times b a
+times_comm a b k e f = ap (times a) (sym (times_unit b k f)) ∙ times_times a b (unit (suc k))
+    ∙ ap (times b) (times_unit a k e)
 
-pub times_assoc : (a b c : List ℤ) (k : ℕ) → length a ≡ suc k → length b ≡ suc k → length c ≡ suc k → times (times a b) c ≡ times a (times b c)
+pub times_assoc : (a b c : List ℤ) (k : ℕ) → length a ≡ suc k → length b ≡ suc k →
+    length c ≡ suc k → times (times a b) c ≡ times a (times b c)
 times_assoc a b c k e f g =
-    times_comm (times a b) c k (length-times a b ∙ f) g ∙ times_times c a b ∙ ap (times a) (times_comm c b k g f)
+    times_comm (times a b) c k (length-times a b ∙ f) g ∙ times_times c a b
+    ∙ ap (times a) (times_comm c b k g f)
 
 pub times_one : (a : List ℤ) (k : ℕ) → length a ≡ suc k → times a (unit (suc k)) ≡ a
 times_one = times_unit
@@ -209,7 +235,8 @@ final_last c [] x = refl
 final_last c (y ∷ g) x = final_last y g x
 
 rotated_last : (g : List ℤ) (x : ℤ) → rotated (g ++ (x ∷ [])) ≡ neg_ℤ x ∷ g
-rotated_last g x = ap (λ c. behind (neg_ℤ c) (g ++ (x ∷ []))) (final_last (pos 0) g x) ∙ behind_last (neg_ℤ x) g x
+rotated_last g x = ap (λ c. behind (neg_ℤ c) (g ++ (x ∷ []))) (final_last (pos 0) g x)
+    ∙ behind_last (neg_ℤ x) g x
 
 -- as many turns as b is long bring b to the front, with its sign changed
 pub rotations_back : (f b : List ℤ) → rotations (length b) (f ++ b) ≡ minus b ++ f
@@ -226,19 +253,24 @@ rotations_half a = rotations_back [] a ∙ append-nil (minus a)
 
 pub length-rotations : (k : ℕ) (a : List ℤ) → length (rotations k a) ≡ length a
 length-rotations zero a = refl
-length-rotations (suc k) a = length-behind (neg_ℤ (final (pos 0) (rotations k a))) (rotations k a) ∙ length-rotations k a
+length-rotations (suc k) a = length-behind (neg_ℤ (final (pos 0) (rotations k a))) (rotations k a)
+    ∙ length-rotations k a
 
 pub rotations_add : (j k : ℕ) (a : List ℤ) → rotations (j + k) a ≡ rotations j (rotations k a)
 rotations_add zero k a = let e : 0 + k ≡ k = omega arith in ap (λ n. rotations n a) e
-rotations_add (suc j) k a = ap (λ n. rotations n a) (let e : suc j + k ≡ suc (j + k) = omega arith in e) ∙ ap rotated (rotations_add j k a)
+rotations_add (suc j) k a =
+    ap (λ n. rotations n a) (let e : suc j + k ≡ suc (j + k) = omega arith in e)
+    ∙ ap rotated (rotations_add j k a)
 
 pub times_rotations : (a b : List ℤ) (k : ℕ) → times a (rotations k b) ≡ rotations k (times a b)
 times_rotations a b zero = refl
 times_rotations a b (suc k) = times_rotated a (rotations k b) ∙ ap rotated (times_rotations a b k)
 
 -- a turn is the product with a power of w, which is a turn of 1
-pub rotations_product : (k : ℕ) (a : List ℤ) (h : ℕ) → length a ≡ suc h → rotations k a ≡ times a (rotations k (unit (suc h)))
-rotations_product k a h e = ap (rotations k) (sym (times_one a h e)) ∙ sym (times_rotations a (unit (suc h)) k)
+pub rotations_product : (k : ℕ) (a : List ℤ) (h : ℕ) → length a ≡ suc h →
+    rotations k a ≡ times a (rotations k (unit (suc h)))
+rotations_product k a h e = ap (rotations k) (sym (times_one a h e))
+    ∙ sym (times_rotations a (unit (suc h)) k)
 
 -- ---- elements
 

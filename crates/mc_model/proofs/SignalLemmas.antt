@@ -1,4 +1,5 @@
--- Values of signals: of a toggled set, of a sum; a rising list of numbers is determined by its values.
+-- Values of signals: of a toggled set, of a sum; a rising list of numbers is determined by its
+-- values.
 use Rattle.std.proofs.Common.{◌≡◌, ℕ, ◌<◌, Bool, true, false, cond, List, [], ◌∷◌, refl, sym, ◌∙◌, ap, ap₂, arith}
 use Rattle.std.specs.Prelude.{nat_eq, nat_lt}
 use Rattle.std.proofs.lemmas.Bool.{eq-eqb, ne_eqb, cases_Bool, cases_order, eqb-false, eqb-true, ltb-true, ltb-false, false≢true}
@@ -13,16 +14,20 @@ parity-toggled q [] o = refl
 parity-toggled q (p ∷ ps) o = elim (cases_Bool (nat_lt q p)) [
   | inl e ↦ rw e
   | inr e ↦ rw e (elim (cases_Bool (nat_eq q p)) [
-    | inl f ↦ rw f (sym (xor_twice (o q) (parity ps o)) ∙ ap (λ (t : ℕ). o q ⊻ (o t ⊻ parity ps o)) (eqb-true q p f))
-    | inr f ↦ rw f (ap (λ (t : Bool). o p ⊻ t) (parity-toggled q ps o) ∙ xor_left (o p) (o q) (parity ps o))
+    | inl f ↦ rw f (sym (xor_twice (o q) (parity ps o))
+        ∙ ap (λ (t : ℕ). o q ⊻ (o t ⊻ parity ps o)) (eqb-true q p f))
+    | inr f ↦ rw f (ap (λ (t : Bool). o p ⊻ t) (parity-toggled q ps o)
+        ∙ xor_left (o p) (o q) (parity ps o))
   ])
 ]
 
-parity-toggled_all : (qs ps : List ℕ) (o : Bits) → parity (toggled_all qs ps) o ≡ parity qs o ⊻ parity ps o
+parity-toggled_all : (qs ps : List ℕ) (o : Bits) →
+    parity (toggled_all qs ps) o ≡ parity qs o ⊻ parity ps o
 unfolding parity toggled_all
 parity-toggled_all [] ps o = refl
 parity-toggled_all (q ∷ qs) ps o =
-    parity-toggled q (toggled_all qs ps) o ∙ ap (λ (t : Bool). o q ⊻ t) (parity-toggled_all qs ps o) ∙ sym (xor_assoc (o q) (parity qs o) (parity ps o))
+    parity-toggled q (toggled_all qs ps) o ∙ ap (λ (t : Bool). o q ⊻ t) (parity-toggled_all qs ps o)
+    ∙ sym (xor_assoc (o q) (parity qs o) (parity ps o))
 
 pub value-sum : (s t : Signal) (o : Bits) → value (signal_sum s t) o ≡ value s o ⊻ value t o
 unfolding value
@@ -50,7 +55,8 @@ parity-first : (q : ℕ) (qs : List ℕ) → AllAbove q qs → parity (q ∷ qs)
 unfolding parity only
 parity-first q qs all = ap₂ (λ (a b : Bool). a ⊻ b) (eq-eqb q q refl) (parity-above q qs all)
 
-pub same_values : (ps qs : List ℕ) → IsRising ps → IsRising qs → ((o : Bits) → parity ps o ≡ parity qs o) → ps ≡ qs
+pub same_values : (ps qs : List ℕ) → IsRising ps → IsRising qs →
+    ((o : Bits) → parity ps o ≡ parity qs o) → ps ≡ qs
 unfolding parity
 same_values [] [] rp rq h = refl
 same_values [] (q ∷ qs) rp rq h = absurd (false≢true (h (only q) ∙ parity-first q qs rq.0))
@@ -58,10 +64,16 @@ same_values (p ∷ ps) [] rp rq h = absurd (false≢true (sym (h (only p)) ∙ p
 same_values (p ∷ ps) (q ∷ qs) rp rq h = elim (cases_order p q) [
   | inl e ↦ ap₂ (λ (r : ℕ) (rs : List ℕ). r ∷ rs) e
       (same_values ps qs rp.1 rq.1 (λ o.
-      sym (xor_twice (o p) (parity ps o)) ∙ ap (λ (b : Bool). o p ⊻ b) (h o) ∙ ap (λ (r : ℕ). o r ⊻ (o q ⊻ parity qs o)) e ∙ xor_twice (o q) (parity qs o)))
+      sym (xor_twice (o p) (parity ps o)) ∙ ap (λ (b : Bool). o p ⊻ b) (h o)
+      ∙ ap (λ (r : ℕ). o r ⊻ (o q ⊻ parity qs o)) e ∙ xor_twice (o q) (parity qs o)))
   | inr other ↦ elim other [
-    | inl lt ↦ absurd (false≢true (sym (h (only p) ∙ parity-above p (q ∷ qs) (lt, above_lower p q qs lt rq.0)) ∙ parity-first p ps rp.0))
-    | inr gt ↦ absurd (false≢true (sym (sym (h (only q)) ∙ parity-above q (p ∷ ps) (gt, above_lower q p ps gt rp.0)) ∙ parity-first q qs rq.0))
+    | inl lt ↦ absurd
+        (false≢true (sym (h (only p) ∙ parity-above p (q ∷ qs) (lt, above_lower p q qs lt rq.0))
+        ∙ parity-first p ps rp.0))
+    | inr gt ↦ absurd
+        (false≢true (sym
+        (sym (h (only q)) ∙ parity-above q (p ∷ ps) (gt, above_lower q p ps gt rp.0))
+        ∙ parity-first q qs rq.0))
   ]
 ]
 
@@ -70,7 +82,8 @@ unfolding toggled
 toggled_above r q [] h all = (h, tt)
 toggled_above r q (p ∷ ps) h all = elim (cases_Bool (nat_lt q p)) [
   | inl e ↦ rw e (h, all)
-  | inr e ↦ rw e (elim (cases_Bool (nat_eq q p)) [ inl f ↦ rw f all.1 | inr f ↦ rw f (all.0, toggled_above r q ps h all.1) ])
+  | inr e ↦ rw e (elim (cases_Bool (nat_eq q p))
+      [ inl f ↦ rw f all.1 | inr f ↦ rw f (all.0, toggled_above r q ps h all.1) ])
 ]
 
 pub toggled_rising : (q : ℕ) (ps : List ℕ) → IsRising ps → IsRising (toggled q ps)

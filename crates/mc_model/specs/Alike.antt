@@ -10,13 +10,17 @@ pub record AlikeAmps {E : Type 0} (ops : PhaseOps E) (f g : Amps E) : Type 0 whe
   pub phase : ℕ
   pub same : (x : Bits) → f x ≡ turn ops phase (g x)
 
--- at outcomes `o` the commands `cs` do what `ds` do, up to one power of `w`, whatever stands before them
-pub record AlikeCommands {E : Type 0} (ops : PhaseOps E) (o : Bits) (cs ds : List Command) : Type 0 where
-  pub phase : ℕ
-  pub same : (f : Amps E) (x : Bits) → after ops o cs f x ≡ turn ops phase (after ops o ds f x)
+-- at outcomes `o` the commands `cs` do what `ds` do, up to one power of `w`, whatever stands before
+-- them
+pub record AlikeCommands {E : Type 0} (ops : PhaseOps E) (o : Bits) (cs ds : List Command) : Type 0
+  where
+    pub phase : ℕ
+    pub same : (f : Amps E) (x : Bits) → after ops o cs f x ≡ turn ops phase (after ops o ds f x)
 
--- one power of `w` takes every entry of the second branch map, at outcomes `o'`, to that of the first, at outcomes `o`
-pub record AlikeBranches {E : Type 0} (ops : PhaseOps E) (p : Pattern) (o : Bits) (q : Pattern) (o' : Bits) : Type 0 where
+-- one power of `w` takes every entry of the second branch map, at outcomes `o'`, to that of the
+-- first, at outcomes `o`
+pub record AlikeBranches {E : Type 0} (ops : PhaseOps E) (p : Pattern) (o : Bits) (q : Pattern)
+    (o' : Bits) : Type 0 where
   pub phase : ℕ
   pub within : phase < 2 * ops.half
   pub same : (y : List Bool) (b : Bits) →

@@ -2,7 +2,7 @@
 use Rattle.std.specs.Prelude.{ℕ, zero, suc, ◌+◌, ◌-◌, Bool, true, false, cond, not, ◌&&◌, List, [], ◌∷◌}
 use Rattle.mc_model.specs.Phase.{PhaseOps, turn, sign, negated, measured_angle}
 use Rattle.mc_model.specs.Bits.{◌⊻◌, Bits, all_zero, replaced}
-use Rattle.mc_model.specs.Signals.{Signal, value}
+use Rattle.mc_model.specs.Signals.{value}
 use Rattle.mc_model.specs.Pattern.{Command, Prep, Ent, Meas, FixX, FixZ, Pattern, Gate, J, CZ, Circuit, wires}
 
 -- an amplitude for each setting

@@ -1,5 +1,5 @@
 -- The flow, the causal flow, the refuter and the stuck set that are chosen among all.
-use Rattle.std.specs.Prelude.{◌≡◌, ◌≢◌, ◌⊎◌, ℕ, ◌<◌, ◌≤◌, true, false, eqb}
+use Rattle.std.specs.Prelude.{◌≡◌, ◌≢◌, ◌⊎◌, ℕ, ◌<◌, ◌≤◌, true, false}
 use Rattle.mc_model.specs.Bits.{Bits}
 use Rattle.mc_model.specs.Graph.{OpenGraph, size, is_input, is_output, odd_neighbourhood, joins}
 use Rattle.mc_model.specs.Flow.{IsFlow, IsCausalFlow, single, IsRefuter, RefutesAt, IsStuckSet}
@@ -17,9 +17,10 @@ abbrev pub SameBelow : ℕ → Bits → Bits → Type 0
 SameBelow n s t = (k : ℕ) → k < n → s k ≡ t k
 
 -- the least set with a property
-pub record IsLeastSet (is_after : ℕ → ℕ → Type 0) (n : ℕ) (P : Bits → Type 0) (s : Bits) : Type 0 where
-  pub has : P s
-  pub least : (t : Bits) → P t → SameBelow n s t ⊎ IsLess is_after n s t
+pub record IsLeastSet (is_after : ℕ → ℕ → Type 0) (n : ℕ) (P : Bits → Type 0) (s : Bits) : Type 0
+  where
+    pub has : P s
+    pub least : (t : Bits) → P t → SameBelow n s t ⊎ IsLess is_after n s t
 
 -- the least layer of a vertex in any flow
 pub record IsLeastLayer (g : OpenGraph) (v k : ℕ) : Type 0 where
@@ -33,7 +34,8 @@ pub record IsLeastLayer (g : OpenGraph) (v k : ℕ) : Type 0 where
 abbrev pub IsLaterCandidate : (ℕ → ℕ) → ℕ → ℕ → Type 0
 IsLaterCandidate layer d k = (layer d < layer k) ⊎ ((layer d ≡ layer k) × (d < k))
 
--- a set of candidates of smaller layers whose odd neighbourhood has `u` and no other vertex but outputs
+-- a set of candidates of smaller layers whose odd neighbourhood has `u` and no other vertex but
+-- outputs
 pub record CorrectsAlone (g : OpenGraph) (layer : ℕ → ℕ) (u : ℕ) (s : Bits) : Type 0 where
   pub within : (k : ℕ) → s k ≡ true → k < size g
   pub no_input : (k : ℕ) → s k ≡ true → is_input g k ≡ false
@@ -47,7 +49,8 @@ pub record IsChosenFlow (g : OpenGraph) (sets : ℕ → Bits) (layer : ℕ → �
   pub least_sets : (u : ℕ) → u < size g → is_output g u ≡ false →
       IsLeastSet (IsLaterCandidate layer) (size g) (CorrectsAlone g layer u) (sets u)
 
--- `B` is the greatest set that a refuter has, and each row is the least that refutes, by the greatest number that differs
+-- `B` is the greatest set that a refuter has, and each row is the least that refutes, by the
+-- greatest number that differs
 pub record IsChosenRefuter (g : OpenGraph) (B : Bits) (y : ℕ → Bits) : Type 0 where
   pub refuter : IsRefuter g B y
   pub greatest : (B' : Bits) (y' : ℕ → Bits) → IsRefuter g B' y' →
@@ -63,7 +66,8 @@ pub record IsLeastCausalLayer (g : OpenGraph) (v k : ℕ) : Type 0 where
   pub reached : layer v ≡ k
   pub least : (next' layer' : ℕ → ℕ) → IsCausalFlow g next' layer' → k ≤ layer' v
 
--- `w` is a neighbour of `u` of a smaller layer, no input, and its other neighbours have smaller layers than `u`
+-- `w` is a neighbour of `u` of a smaller layer, no input, and its other neighbours have smaller
+-- layers than `u`
 pub record CorrectsCausally (g : OpenGraph) (layer : ℕ → ℕ) (u w : ℕ) : Type 0 where
   pub vertex : w < size g
   pub no_input : is_input g w ≡ false

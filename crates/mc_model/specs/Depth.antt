@@ -1,5 +1,5 @@
 -- Depths: the longest chain of dependent measurements, and lower bounds on the depth of every flow.
-use Rattle.std.specs.Prelude.{◌≡◌, ◌⊎◌, ℕ, suc, ◌<◌, ◌≤◌, true, false, ◌||◌, List, [], ◌∷◌, ◌++◌, length, ⊤}
+use Rattle.std.specs.Prelude.{◌≡◌, ◌⊎◌, ℕ, ◌<◌, ◌≤◌, true, false, ◌||◌, List, [], ◌∷◌, ◌++◌, length, ⊤}
 use Rattle.mc_model.specs.Numbers.{is_member}
 use Rattle.mc_model.specs.Bits.{Bits}
 use Rattle.mc_model.specs.Signals.{Signal}
@@ -40,7 +40,8 @@ pub record IsDependenceDepth (cs : List Command) (d : ℕ) : Type 0 where
   pub reached : length chain ≡ d
   pub greatest : (qs : List ℕ) → IsChain cs qs → length qs ≤ d
 
--- stated layers from 1 to `d`, and for each `k` below `d` and each vertex of a layer above `k` a set that keeps it from a layer of `k`
+-- stated layers from 1 to `d`, and for each `k` below `d` and each vertex of a layer above `k` a
+-- set that keeps it from a layer of `k`
 pub record IsDepthBound (g : OpenGraph) (d : ℕ) (layer : ℕ → ℕ) (y : ℕ → ℕ → Bits) : Type 0 where
   pub layers : (v : ℕ) → v < size g → is_output g v ≡ false → (1 ≤ layer v) × (layer v ≤ d)
   pub reached : (d ≡ 0) ⊎ ((v : ℕ) × (v < size g) × (is_output g v ≡ false) × (layer v ≡ d))

@@ -1,5 +1,5 @@
 -- Rewriting a list of commands: the rules, a use of a rule at a place, and the rank that falls.
-use Rattle.std.specs.Prelude.{◌≡◌, ◌⊎◌, ℕ, suc, ◌+◌, ◌<◌, ◌≤◌, Bool, false, cond, ◌&&◌, ◌||◌, nat_eq, nat_lt, List, [], ◌∷◌, ◌++◌, length, map, ⊤}
+use Rattle.std.specs.Prelude.{◌≡◌, ◌⊎◌, ℕ, suc, ◌+◌, ◌<◌, Bool, false, cond, ◌&&◌, ◌||◌, nat_eq, nat_lt, List, [], ◌∷◌, ◌++◌, length, map, ⊤}
 use Rattle.mc_model.specs.Signals.{Signal, no_signal, signal_sum}
 use Rattle.mc_model.specs.Pattern.{Command, Prep, Ent, Meas, FixX, FixZ}
 use Rattle.mc_model.specs.Alike.{Disjoint}
@@ -41,20 +41,29 @@ UsesNot (FixZ q s) d = ⊤
 
 -- by the rule, the first list may become the second
 pub data Rewrites : Rule → List Command → List Command → Type 0 where
-  x_first : {i j : ℕ} {s : Signal} → Rewrites XE (FixX i s ∷ Ent i j ∷ []) (Ent i j ∷ FixX i s ∷ FixZ j s ∷ [])
-  x_second : {i j : ℕ} {s : Signal} → Rewrites XE (FixX i s ∷ Ent j i ∷ []) (Ent j i ∷ FixX i s ∷ FixZ j s ∷ [])
+  x_first : {i j : ℕ} {s : Signal} →
+      Rewrites XE (FixX i s ∷ Ent i j ∷ []) (Ent i j ∷ FixX i s ∷ FixZ j s ∷ [])
+  x_second : {i j : ℕ} {s : Signal} →
+      Rewrites XE (FixX i s ∷ Ent j i ∷ []) (Ent j i ∷ FixX i s ∷ FixZ j s ∷ [])
   z_first : {i j : ℕ} {s : Signal} → Rewrites ZE (FixZ i s ∷ Ent i j ∷ []) (Ent i j ∷ FixZ i s ∷ [])
-  z_second : {i j : ℕ} {s : Signal} → Rewrites ZE (FixZ i s ∷ Ent j i ∷ []) (Ent j i ∷ FixZ i s ∷ [])
-  x_measured : {i a : ℕ} {r s t : Signal} → Rewrites XM (FixX i r ∷ Meas i a s t ∷ []) (Meas i a (signal_sum s r) t ∷ [])
-  z_measured : {i a : ℕ} {r s t : Signal} → Rewrites ZM (FixZ i r ∷ Meas i a s t ∷ []) (Meas i a s (signal_sum t r) ∷ [])
+  z_second : {i j : ℕ} {s : Signal} →
+      Rewrites ZE (FixZ i s ∷ Ent j i ∷ []) (Ent j i ∷ FixZ i s ∷ [])
+  x_measured : {i a : ℕ} {r s t : Signal} →
+      Rewrites XM (FixX i r ∷ Meas i a s t ∷ []) (Meas i a (signal_sum s r) t ∷ [])
+  z_measured : {i a : ℕ} {r s t : Signal} →
+      Rewrites ZM (FixZ i r ∷ Meas i a s t ∷ []) (Meas i a s (signal_sum t r) ∷ [])
   swapped : {c d : Command} → Disjoint c d → UsesNot c d → Rewrites Swap (c ∷ d ∷ []) (d ∷ c ∷ [])
-  x_joined : {i : ℕ} {s t : Signal} → Rewrites Join (FixX i s ∷ FixX i t ∷ []) (FixX i (signal_sum s t) ∷ [])
-  z_joined : {i : ℕ} {s t : Signal} → Rewrites Join (FixZ i s ∷ FixZ i t ∷ []) (FixZ i (signal_sum s t) ∷ [])
+  x_joined : {i : ℕ} {s t : Signal} →
+      Rewrites Join (FixX i s ∷ FixX i t ∷ []) (FixX i (signal_sum s t) ∷ [])
+  z_joined : {i : ℕ} {s t : Signal} →
+      Rewrites Join (FixZ i s ∷ FixZ i t ∷ []) (FixZ i (signal_sum s t) ∷ [])
   edges_exchanged : {i j q r : ℕ} → Rewrites EE (Ent i j ∷ Ent q r ∷ []) (Ent q r ∷ Ent i j ∷ [])
   same_cancelled : {i j : ℕ} → Rewrites Cancel (Ent i j ∷ Ent i j ∷ []) []
   turned_cancelled : {i j : ℕ} → Rewrites Cancel (Ent i j ∷ Ent j i ∷ []) []
-  x_behind_z : {i : ℕ} {s t : Signal} → Rewrites XZ (FixX i s ∷ FixZ i t ∷ []) (FixZ i t ∷ FixX i s ∷ [])
-  z_behind_x : {i : ℕ} {s t : Signal} → Rewrites XZ (FixZ i s ∷ FixX i t ∷ []) (FixX i t ∷ FixZ i s ∷ [])
+  x_behind_z : {i : ℕ} {s t : Signal} →
+      Rewrites XZ (FixX i s ∷ FixZ i t ∷ []) (FixZ i t ∷ FixX i s ∷ [])
+  z_behind_x : {i : ℕ} {s t : Signal} →
+      Rewrites XZ (FixZ i s ∷ FixX i t ∷ []) (FixX i t ∷ FixZ i s ∷ [])
   turned : {i j : ℕ} → Rewrites Turn (Ent i j ∷ []) (Ent j i ∷ [])
   x_dropped : {i : ℕ} → Rewrites DropEmpty (FixX i no_signal ∷ []) []
   z_dropped : {i : ℕ} → Rewrites DropEmpty (FixZ i no_signal ∷ []) []
@@ -100,7 +109,8 @@ out_of_order before (p ∷ ps) = one_if (has_later p before) + out_of_order (bef
 -- the number of commands of later parts before the first of these, or 0
 unfoldable pub first_out : List ℕ → List ℕ → ℕ
 first_out before [] = 0
-first_out before (p ∷ ps) = cond (has_later p before) (count_later p before) (first_out (before ++ (p ∷ [])) ps)
+first_out before (p ∷ ps) =
+    cond (has_later p before) (count_later p before) (first_out (before ++ (p ∷ [])) ps)
 
 -- the lower and the higher number of a pair
 abbrev pub lower : ℕ → ℕ → ℕ
@@ -160,7 +170,8 @@ IsLower a b =
     (a.late < b.late)
     ⊎ ((a.late ≡ b.late) × ((a.ahead < b.ahead)
     ⊎ ((a.ahead ≡ b.ahead) × ((a.size < b.size)
-    ⊎ ((a.size ≡ b.size) × ((a.wrong < b.wrong) ⊎ ((a.wrong ≡ b.wrong) × (a.turned < b.turned))))))))
+    ⊎ ((a.size ≡ b.size)
+    × ((a.wrong < b.wrong) ⊎ ((a.wrong ≡ b.wrong) × (a.turned < b.turned))))))))
 
 -- a use of a rule: the place of the first command concerned, counted from 1
 pub record Use : Type 0 where

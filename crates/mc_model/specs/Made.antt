@@ -1,12 +1,11 @@
 -- The pattern that is made from a flow, and the circuit that is extracted by a causal flow.
-use Rattle.std.specs.Prelude.{ℕ, zero, suc, ◌-◌, Bool, cond, not, ◌&&◌, ◌||◌, nat_eq, nat_lt, List, [], ◌∷◌, ◌++◌, map, filter, flat_map, position, find, unwrap_or, length, is_none, slice_get, Option}
-use Rattle.mc_model.specs.Names.{Name}
+use Rattle.std.specs.Prelude.{ℕ, zero, suc, cond, not, ◌&&◌, ◌||◌, nat_eq, nat_lt, List, [], ◌∷◌, ◌++◌, map, filter, flat_map, position, find, unwrap_or, is_none, slice_get, Option}
 use Rattle.mc_model.specs.Numbers.{numbers_from, numbers_where, is_member}
 use Rattle.mc_model.specs.Bits.{Bits}
 use Rattle.mc_model.specs.Phase.{negated}
-use Rattle.mc_model.specs.Signals.{Signal, signal_of}
+use Rattle.mc_model.specs.Signals.{signal_of}
 use Rattle.mc_model.specs.Pattern.{Command, FixX, FixZ, Pattern, Gate, J, CZ, Circuit}
-use Rattle.mc_model.specs.Graph.{Edge, OpenGraph, size, is_input, is_output, base_angle, odd_neighbourhood, joins, graph_state, bare_measurement}
+use Rattle.mc_model.specs.Graph.{OpenGraph, size, is_output, base_angle, odd_neighbourhood, joins, graph_state, bare_measurement}
 use Rattle.mc_model.specs.Flow.{depth_of}
 
 -- the vertices that are no outputs, from the layer `k` down, and within a layer by rising number
@@ -71,7 +70,8 @@ cz_gate g next v w =
     cond (nat_lt w v) (CZ (wire_of g next w) (wire_of g next v))
     (CZ (wire_of g next v) (wire_of g next w))
 
--- `J` on the wire of each vertex in order, and then the edges between its next and the vertices that are current
+-- `J` on the wire of each vertex in order, and then the edges between its next and the vertices
+-- that are current
 unfoldable pub extracted_gates : OpenGraph → (ℕ → ℕ) → ℕ → List ℕ → List ℕ → List Gate
 extracted_gates g next half done [] = []
 extracted_gates g next half done (i ∷ is) =

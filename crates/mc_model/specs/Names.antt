@@ -10,7 +10,8 @@ abbrev pub Name : Type 0
 Name = List ℕ
 
 abbrev pub is_name_byte : ℕ → Bool
-is_name_byte b = (nat_le 97 b && nat_le b 122) || (nat_le 65 b && nat_le b 90) || (nat_le 48 b && nat_le b 57) || (b == 95)
+is_name_byte b = (nat_le 97 b && nat_le b 122) || (nat_le 65 b && nat_le b 90) ||
+    (nat_le 48 b && nat_le b 57) || (b == 95)
 
 -- 1 to 16 letters, digits and `_`
 abbrev pub is_name : Name → Bool
@@ -39,11 +40,14 @@ numbered k = codes "q" ++ decimal k
 
 -- the first of `q1`, `q2`, .. that is not held; one more than there are names suffice
 abbrev pub fresh_name : List Name → Name
-fresh_name names = unwrap_or (find (λ name. not (is_held names name)) (map numbered (numbers_from 1 (length names + 1)))) []
+fresh_name names =
+    unwrap_or (find (λ name. not (is_held names name))
+    (map numbered (numbers_from 1 (length names + 1)))) []
 
 -- the name with the least positive number that is not held
 abbrev pub IsFresh : List Name → Name → Type 0
-IsFresh names name = (k : ℕ) × (0 < k) × (name ≡ numbered k) × (is_held names name ≡ false) × ((j : ℕ) → 0 < j → j < k → is_held names (numbered j) ≡ true)
+IsFresh names name = (k : ℕ) × (0 < k) × (name ≡ numbered k) × (is_held names name ≡ false)
+    × ((j : ℕ) → 0 < j → j < k → is_held names (numbered j) ≡ true)
 
 -- the names with `n` fresh ones behind them
 abbrev pub with_fresh : ℕ → List Name → List Name

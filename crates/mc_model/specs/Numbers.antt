@@ -26,7 +26,8 @@ pairs_at make p i zero = []
 pairs_at make p i (suc j) =
     pairs_at make p i j ++ cond (nat_lt i j && p i j) (make i j ∷ []) []
 
--- the pairs below `n` that pass the test, the lower number first, in rising order; those of the first `m` numbers
+-- the pairs below `n` that pass the test, the lower number first, in rising order; those of the
+-- first `m` numbers
 unfoldable pub pairs_below : {A : Type 0} → (ℕ → ℕ → A) → (ℕ → ℕ → Bool) → ℕ → ℕ → List A
 pairs_below make p n zero = []
 pairs_below make p n (suc m) = pairs_below make p n m ++ pairs_at make p m n

@@ -3,7 +3,8 @@ use Rattle.std.specs.Prelude.{ℕ, List, length}
 use Rattle.mc_model.specs.Names.{Name}
 use Rattle.mc_model.specs.Signals.{Signal}
 
--- prepare, entangle, measure at a base angle with the signals `s` and `t`, correct by `X`, correct by `Z`
+-- prepare, entangle, measure at a base angle with the signals `s` and `t`, correct by `X`, correct
+-- by `Z`
 pub data Command : Type 0 where
   Prep : ℕ → Command
   Ent : ℕ → ℕ → Command

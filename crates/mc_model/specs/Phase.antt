@@ -1,4 +1,5 @@
--- What amplitudes need of a ring with an element `w` for which `w ^ half = -1`: a sum, and products by powers of `w`.
+-- What amplitudes need of a ring with an element `w` for which `w ^ half = -1`: a sum, and products
+-- by powers of `w`.
 use Rattle.std.specs.Prelude.{◌≡◌, ℕ, zero, suc, ◌+◌, ◌-◌, ◌*◌, ◌%◌, ◌<◌, Bool, cond}
 
 -- the operations: `rotate` multiplies by `w`

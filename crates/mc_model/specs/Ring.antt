@@ -1,5 +1,6 @@
--- The amplitude ring: numbers with `w ^ half = -1`, as the lists of the coefficients of `1, w, .., w ^ (half - 1)`.
-use Rattle.std.specs.Prelude.{◌≡◌, ℕ, zero, suc, ◌*◌, ◌/◌, ◌<◌, ℤ, pos, ◌+ℤ◌, neg_ℤ, List, [], ◌∷◌, length, refl}
+-- The amplitude ring: numbers with `w ^ half = -1`, as the lists of the coefficients of `1, w, ..,
+-- w ^ (half - 1)`.
+use Rattle.std.specs.Prelude.{◌≡◌, ℕ, zero, suc, ◌*◌, ℤ, pos, ◌+ℤ◌, neg_ℤ, List, [], ◌∷◌, length, refl}
 use lib.IntN.{◌*ℤ◌}
 use mathlib.Core.Path.{ap, ◌∙◌, sym}
 use Rattle.mc_model.specs.Phase.{PhaseOps, PhaseLaws, turn}
@@ -130,7 +131,8 @@ root_two q =
     let ops = ring (4 * q) in
     ops.add (turn ops q ops.one) (ops.neg (turn ops (3 * q) ops.one))
 
--- a commutative ring, whose sum and negative are those of the phases, and in which a rotation is a product
+-- a commutative ring, whose sum and negative are those of the phases, and in which a rotation is a
+-- product
 pub record IsCommutativeRing (half : ℕ) : Type 0 where
   pub phases : PhaseLaws (ring half)
   pub product_comm : (x y : Element half) → product x y ≡ product y x

@@ -1,4 +1,5 @@
--- Signal shifting: a pattern without second signals, which does at changed outcomes what the pattern did.
+-- Signal shifting: a pattern without second signals, which does at changed outcomes what the
+-- pattern did.
 use Rattle.std.specs.Prelude.{◌≡◌, ℕ, cond, nat_eq, List, [], ◌∷◌, ⊤, false}
 use Rattle.mc_model.specs.Bits.{◌⊻◌, Bits}
 use Rattle.mc_model.specs.Signals.{Signal, value, no_signal, IsRising}
@@ -9,7 +10,8 @@ pub record ChangeRow : Type 0 where
   pub qubit : ℕ
   pub signal : Signal
 
--- the new outcomes: at the qubit of each row the old outcome plus the value of the row's signal at the old outcomes
+-- the new outcomes: at the qubit of each row the old outcome plus the value of the row's signal at
+-- the old outcomes
 unfoldable pub new_outcomes : List ChangeRow → Bits → Bits
 new_outcomes [] o k = o k
 new_outcomes (row ∷ rows) o k =
@@ -24,7 +26,8 @@ change_of (Meas q a s t ∷ cs) = record { qubit = q; signal = t } ∷ change_of
 change_of (FixX q s ∷ cs) = change_of cs
 change_of (FixZ q s ∷ cs) = change_of cs
 
--- the shifted signal: the one that has at the new outcomes the value of the old one at the old outcomes
+-- the shifted signal: the one that has at the new outcomes the value of the old one at the old
+-- outcomes
 pub record IsShiftedSignal (rows : List ChangeRow) (s s' : Signal) : Type 0 where
   pub is_set : IsRising s'.members
   pub same_value : (o : Bits) → value s' (new_outcomes rows o) ≡ value s o

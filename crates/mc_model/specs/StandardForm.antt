@@ -1,7 +1,7 @@
 -- The standard form of a pattern, by closed sums over the places of its list.
-use Rattle.std.specs.Prelude.{ℕ, zero, suc, ◌+◌, Bool, true, false, cond, nat_eq, List, [], ◌∷◌, ◌++◌}
+use Rattle.std.specs.Prelude.{ℕ, zero, suc, ◌+◌, Bool, false, cond, nat_eq, List, [], ◌∷◌, ◌++◌}
 use Rattle.mc_model.specs.Numbers.{pairs_below}
-use Rattle.mc_model.specs.Bits.{◌⊻◌, Bits, same_pair}
+use Rattle.mc_model.specs.Bits.{◌⊻◌, same_pair}
 use Rattle.mc_model.specs.Signals.{Signal, no_signal, signal_sum, is_empty, Signals}
 use Rattle.mc_model.specs.Pattern.{Command, Prep, Ent, Meas, FixX, FixZ, Pattern}
 use Rattle.mc_model.specs.Valid.{prepared, measured}
@@ -11,7 +11,8 @@ abbrev pub where_same : ℕ → ℕ → Signal → Signal
 where_same q r s = cond (nat_eq q r) s no_signal
 
 -- the sum over the places of `cs`: each command with what stands before it
-unfoldable pub sum_over_places : (List Command → Command → Signal) → List Command → List Command → Signal
+unfoldable pub sum_over_places : (List Command → Command → Signal) → List Command → List Command →
+    Signal
 sum_over_places part before [] = no_signal
 sum_over_places part before (c ∷ cs) =
     signal_sum (part before c) (sum_over_places part (before ++ (c ∷ [])) cs)
@@ -36,7 +37,8 @@ first_part q before (Meas r a s t) = where_same q r s
 first_part q before (FixX r s) = where_same q r s
 first_part q before (FixZ r s) = no_signal
 
--- the signal of a `Z q`, `t` where `q` is measured, and at an entangling of `q` with some `r` the signals of all `X r` before it
+-- the signal of a `Z q`, `t` where `q` is measured, and at an entangling of `q` with some `r` the
+-- signals of all `X r` before it
 unfoldable pub second_part : ℕ → List Command → Command → Signal
 second_part q before (Prep r) = no_signal
 second_part q before (Ent r u) =
@@ -87,7 +89,8 @@ fix_x q s = cond (is_empty s) [] (FixX q s ∷ [])
 abbrev pub fix_z : ℕ → Signal → List Command
 fix_z q s = cond (is_empty s) [] (FixZ q s ∷ [])
 
--- the corrections of the qubits below a bound that are not in the set: by rising number, `X` before `Z`
+-- the corrections of the qubits below a bound that are not in the set: by rising number, `X` before
+-- `Z`
 unfoldable pub corrections_below : (ℕ → Bool) → Signals → Signals → ℕ → List Command
 corrections_below gone ss ts zero = []
 corrections_below gone ss ts (suc q) =

@@ -1,4 +1,5 @@
--- The translation of a circuit into a pattern. What it means is the law of the crate `mc_translate`: every branch has the circuit's table.
+-- The translation of a circuit into a pattern. What it means is the law of the crate
+-- `mc_translate`: every branch has the circuit's table.
 use Rattle.std.specs.Prelude.{ℕ, zero, suc, ◌-◌, cond, nat_eq, List, [], ◌∷◌, ◌++◌, map}
 use Rattle.mc_model.specs.Names.{with_fresh}
 use Rattle.mc_model.specs.Phase.{negated}

@@ -1,5 +1,5 @@
 -- Valid patterns and circuits, stated over places: each command beside what stands before it.
-use Rattle.std.specs.Prelude.{◌≡◌, ℕ, suc, ◌+◌, ◌<◌, ◌≤◌, Bool, true, false, not, ◌||◌, nat_eq, List, [], ◌∷◌, ◌++◌, length, ⊤}
+use Rattle.std.specs.Prelude.{◌≡◌, ℕ, suc, ◌+◌, ◌<◌, ◌≤◌, true, false, not, ◌||◌, nat_eq, List, [], ◌∷◌, ◌++◌, length, ⊤}
 use Rattle.mc_model.specs.Names.{AreNames}
 use Rattle.mc_model.specs.Numbers.{ListsOnce}
 use Rattle.mc_model.specs.Bits.{Bits}
@@ -24,7 +24,8 @@ measured (Meas q a s t ∷ cs) k = nat_eq k q || measured cs k
 measured (FixX q s ∷ cs) k = measured cs k
 measured (FixZ q s ∷ cs) k = measured cs k
 
--- the qubit is an input or prepared before, where qubits are prepared in the order of their numbers, and it is not measured before
+-- the qubit is an input or prepared before, where qubits are prepared in the order of their
+-- numbers, and it is not measured before
 pub record IsLive (inputs : ℕ) (before : List Command) (q : ℕ) : Type 0 where
   pub is_there : q < inputs + prepared before
   pub is_not_measured : measured before q ≡ false
@@ -54,7 +55,8 @@ pub record IsValid (inputs : ℕ) (cs : List Command) : Type 0 where
   pub at : (before : List Command) (c : Command) (behind : List Command) →
       cs ≡ before ++ (c ∷ behind) → FitsBehind inputs before c
 
--- moreover each qubit has a name, and the outputs are the qubits that are measured nowhere, each listed once
+-- moreover each qubit has a name, and the outputs are the qubits that are measured nowhere, each
+-- listed once
 pub record IsValidPattern (p : Pattern) : Type 0 where
   pub names : AreNames p.names
   pub qubits : length p.names ≡ p.inputs + prepared p.commands

@@ -28,6 +28,8 @@ decimal_three n h k =
     let q : n / 10 / 10 % 10 ≡ n / 100 = omega arith in
     rw (e, d, q) refl
 
+pub ruleset few_digits = (decimal_one, decimal_two, decimal_three)
+
 -- the names of the numbers from n down to 1
 abbrev names_to : ℕ → List Name
 names_to zero = []
@@ -77,7 +79,8 @@ all_held : (names : List Name) (n : ℕ)
     → (q : Name) → is_held (names_to n) q ≡ true → is_held names q ≡ true
 all_held names zero held q e = absurd (cc e)
 all_held names (suc n) held q e =
-    one_more_held names n q (name_eq q (numbered (suc n))) (held (suc n) (omega arith) (omega arith)) refl
+    one_more_held names n q (name_eq q (numbered (suc n)))
+    (held (suc n) (omega arith) (omega arith)) refl
     (all_held names n (λ j p l. held j p (omega arith)) q) e
 
 -- a list that holds n numbered names has n names
@@ -91,14 +94,16 @@ held_few names n fits held =
     omega arith
 
 pub held_more : (names : List Name) (n : ℕ)
-    → ((j : ℕ) → 0 < j → j < n → is_held names (numbered j) ≡ true) → is_held names (numbered n) ≡ true
+    → ((j : ℕ) → 0 < j → j < n → is_held names (numbered j) ≡ true)
+    → is_held names (numbered n) ≡ true
     → (j : ℕ) → 0 < j → j ≤ n → is_held names (numbered j) ≡ true
 held_more names n below here j p l =
     elim (eqb_tells j n) [ inl e ↦ rw e.1 here | inr e ↦ below j p (let ne = e.1 in omega arith) ]
 
 -- the first name that is not held, among the names of n numbers from a on
 find_fresh : (names : List Name) (a n k : ℕ) → a ≤ k → k < a + n
-    → ((j : ℕ) → a ≤ j → j < k → is_held names (numbered j) ≡ true) → is_held names (numbered k) ≡ false
+    → ((j : ℕ) → a ≤ j → j < k → is_held names (numbered j) ≡ true)
+    → is_held names (numbered k) ≡ false
     → find (λ name. not (is_held names name)) (map numbered (numbers_from a n)) ≡ Some (numbered k)
 find_fresh names a zero k from to below here = absurd (omega arith)
 find_fresh names a (suc n) k from to below here =
@@ -107,12 +112,14 @@ find_fresh names a (suc n) k from to below here =
       | inr e ↦
           let lt : a < k = (let ne = e.1 in omega arith) in
           rw (below a (omega arith) lt)
-          (find_fresh names (suc a) n k (omega arith) (omega arith) (λ j l m. below j (omega arith) m) here)
+          (find_fresh names (suc a) n k (omega arith) (omega arith)
+          (λ j l m. below j (omega arith) m) here)
     ]
 
 -- the name with the least positive number that is not held is the first such name
 pub fresh_name-least : (names : List Name) (k : ℕ) → 0 < k → k ≤ length names + 1
-    → ((j : ℕ) → 0 < j → j < k → is_held names (numbered j) ≡ true) → is_held names (numbered k) ≡ false
+    → ((j : ℕ) → 0 < j → j < k → is_held names (numbered j) ≡ true)
+    → is_held names (numbered k) ≡ false
     → numbered k ≡ fresh_name names
 fresh_name-least names k positive most below here =
     rw (find_fresh names 1 (length names + 1) k (omega arith) (omega arith)

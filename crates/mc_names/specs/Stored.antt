@@ -17,7 +17,8 @@ pub record IsStored (bytes : List ℕ) (len : ℕ) : Type 0 where
 pub same_len : (bytes : List ℕ) (len : ℕ) → IsStored bytes len → length (take len bytes) ≡ len
 same_len bytes len h = let w = h.whole in let k = h.within in length-take-le len bytes (omega arith)
 
-pub same_bytes : (bytes : List ℕ) (len : ℕ) → IsStored bytes len → take len bytes ++ replicate (16 - length (take len bytes)) 0 ≡ bytes
+pub same_bytes : (bytes : List ℕ) (len : ℕ) → IsStored bytes len
+    → take len bytes ++ replicate (16 - length (take len bytes)) 0 ≡ bytes
 same_bytes bytes len h = rw (same_len bytes len h) (rw (← h.zeros) (take-append-drop len bytes))
 
 -- names are the same exactly where their bytes are
@@ -28,13 +29,19 @@ pub short_name : (word : List ℕ) → IsTrue (is_name word) → length word ≤
 short_name word h = grind (arith, nat_tests)
 
 -- a name before zeros
-pub stored_name : (word bytes : List ℕ) → IsTrue (is_name word) → length word ≤ 16 → bytes ≡ word ++ drop (length word) (replicate 16 0) → IsStored bytes (length word)
+pub stored_name : (word bytes : List ℕ) → IsTrue (is_name word) → length word ≤ 16
+    → bytes ≡ word ++ drop (length word) (replicate 16 0) → IsStored bytes (length word)
 stored_name word bytes h le e =
     let zeros : List ℕ = replicate 16 0 in
     let size : length zeros ≡ 16 = length-replicate {A = ℕ} 16 0 in
-    let rest : length (drop (length word) zeros) ≡ length zeros - length word = length-drop (length word) zeros in
-    let front : take (length word) bytes ≡ word = rw e (take-append_seam word (drop (length word) (replicate 16 0))) in
-    let back : drop (length word) bytes ≡ replicate (16 - length word) 0 = rw e (drop-append_seam word (drop (length word) (replicate 16 0)) ∙ drop-replicate (length word) 16 0) in
+    let rest : length (drop (length word) zeros) ≡ length zeros - length word =
+    length-drop (length word) zeros in
+    let front : take (length word) bytes ≡ word =
+    rw e (take-append_seam word (drop (length word) (replicate 16 0))) in
+    let back : drop (length word) bytes ≡ replicate (16 - length word) 0 =
+    rw e
+    (drop-append_seam word (drop (length word) (replicate 16 0))
+    ∙ drop-replicate (length word) 16 0) in
     record {
       whole = rw e (length-append word (drop (length word) (replicate 16 0)) ∙ omega arith);
       within = le;

@@ -1,4 +1,5 @@
-//! Names of qubits, wires and vertices, and lists of distinct names, numbered in the order in which they were added.
+//! Names of qubits, wires and vertices, and lists of distinct names, numbered in the order in which
+//! they were added.
 //!
 //! A name is seen as its bytes, and a list of names as the list of these.
 #![tactic(auto)]

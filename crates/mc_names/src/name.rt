@@ -27,9 +27,11 @@ impl Model for Name {
 
     ghost invariant = { λ n. IsStored n.bytes n.len };
 
-    ghost inverse = { λ xs. record { bytes = xs ++ replicate (16 - length xs) 0; len = length xs } };
+    ghost inverse = { λ xs.
+        record { bytes = xs ++ replicate (16 - length xs) 0; len = length xs } };
 
-    ghost inverse_ok = { λ a h i. record { bytes = same_bytes a.bytes a.len h i; len = same_len a.bytes a.len h i } };
+    ghost inverse_ok = { λ a h i.
+        record { bytes = same_bytes a.bytes a.len h i; len = same_len a.bytes a.len h i } };
 }
 
 impl PartialEq for Name {
@@ -110,7 +112,7 @@ impl Name {
     }
 
     /// `q` and a number in decimal.
-    #[tactic(auto, using(crate::proofs::Numbered::decimal_one, crate::proofs::Numbered::decimal_two, crate::proofs::Numbered::decimal_three))]
+    #[tactic(auto, using(crate::proofs::Numbered::few_digits))]
     pub(crate) fn numbered(number: u16) -> Name
         requires { (0 < number) × (number < 1000) }
         ensures { result ≡ numbered number }

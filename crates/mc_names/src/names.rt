@@ -82,18 +82,21 @@ impl Names {
         *self.set.get_index(number as usize).unwrap()
     }
 
-    /// Adds a name, which goes last, and gives its number. A refusal leaves the names as they were; a name that
-    /// is held is refused as `Twice` also where the list is full, and `Memory` comes last.
+    /// Adds a name, which goes last, and gives its number. A refusal leaves the names as they were;
+    /// a name that is held is refused as `Twice` also where the list is full, and `Memory` comes last.
     pub fn add(&mut self, name: Name) -> Result<u16, NamesEnd>
         ensures number { IfOk result (λ number. number ≡ length self.old) }
         ensures added { OnOk result (self.new ≡ self.old ++ name ∷ []) }
         ensures err { OnErr result (self.new ≡ self.old) }
 
-        ensures twice { (q : ℕ) → (result ≡ Err (NamesEnd.Twice q)) ↔ (place_of self.old name ≡ Some q) }
-        ensures full { (result ≡ Err NamesEnd.Full) ↔ ((place_of self.old name ≡ None) × (length self.old ≡ 256)) }
+        ensures twice { (q : ℕ) →
+            (result ≡ Err (NamesEnd.Twice q)) ↔ (place_of self.old name ≡ Some q) }
+        ensures full { (result ≡ Err NamesEnd.Full) ↔
+            ((place_of self.old name ≡ None) × (length self.old ≡ 256)) }
         // the cause of no refusal stands where the name is added, nor where memory ran out
         ensures room { OnOk result ((place_of self.old name ≡ None) × (length self.old < 256)) }
-        ensures memory_last { result ≡ Err NamesEnd.Memory → (place_of self.old name ≡ None) × (length self.old < 256) }
+        ensures memory_last { result ≡ Err NamesEnd.Memory →
+            (place_of self.old name ≡ None) × (length self.old < 256) }
     {
         if let Some(number) = self.find(&name) {
             return Err(NamesEnd::Twice(number));
@@ -120,7 +123,8 @@ impl Names {
 
     /// Whether one or the other of two lists holds each of these names.
     pub fn is_subset_of_union(&self, first: &Names, second: &Names) -> bool
-        ensures { result ≡ list_all (λ name. is_held first.now name || is_held second.now name) self.now }
+        ensures { result ≡
+            list_all (λ name. is_held first.now name || is_held second.now name) self.now }
     {
         self.set.as_slice().iter().all(|name| first.find(name).is_some()
             || second.find(name).is_some())

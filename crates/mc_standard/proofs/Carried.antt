@@ -11,14 +11,17 @@ joined xs q s = reset xs q (signal_sum (xs q) s)
 abbrev pub handed : Signals → Signals → ℕ → ℕ → Signals
 handed xs zs i j = joined (joined zs i (xs j)) j (xs i)
 
--- the commands without corrections: each measurement takes the signals that are carried at its qubit
+-- the commands without corrections: each measurement takes the signals that are carried at its
+-- qubit
 unfoldable pub stripped : Signals → Signals → List Command → List Command
 stripped xs zs [] = []
 stripped xs zs (Prep q ∷ cs) = Prep q ∷ stripped xs zs cs
 stripped xs zs (Ent i j ∷ cs) = Ent i j ∷ stripped xs (handed xs zs i j) cs
 stripped xs zs (FixX q s ∷ cs) = stripped (joined xs q s) zs cs
 stripped xs zs (FixZ q s ∷ cs) = stripped xs (joined zs q s) cs
-stripped xs zs (Meas i a s t ∷ cs) = Meas i a (signal_sum s (xs i)) (signal_sum t (zs i)) ∷ stripped (reset xs i no_signal) (reset zs i no_signal) cs
+stripped xs zs (Meas i a s t ∷ cs) =
+    Meas i a (signal_sum s (xs i)) (signal_sum t (zs i)) ∷ stripped (reset xs i no_signal)
+    (reset zs i no_signal) cs
 
 -- the signals that are carried at the end
 unfoldable pub carried : Signals → Signals → List Command → Signals × Signals

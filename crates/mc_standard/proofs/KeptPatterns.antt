@@ -1,25 +1,24 @@
 -- Derivations and the standard form keep a pattern valid, and what it does.
-use Rattle.std.proofs.Common.{◌≡◌, ℕ, ◌+◌, ◌%◌, ◌*◌, Bool, not, ◌||◌, List, [], ◌∷◌, ◌++◌, refl, sym, ◌∙◌, ap, ap₂, subst, subst₂, arith}
+use Rattle.std.proofs.Common.{◌≡◌, ℕ, ◌+◌, Bool, not, ◌||◌, List, [], ◌∷◌, ◌++◌, refl, sym, ◌∙◌, ap, subst, subst₂, arith}
 use Rattle.std.specs.Prelude.{length}
 use mathlib.Core.Path.{fun_ext}
 use mathlib.Core.Logic.{inl, inr}
-use Rattle.mc_model.specs.Phase.{PhaseOps, PhaseLaws, turn}
+use Rattle.mc_model.specs.Phase.{PhaseOps, PhaseLaws}
 use Rattle.mc_model.specs.Bits.{Bits}
 use Rattle.mc_model.specs.Numbers.{ListsOnce}
 use Rattle.mc_model.specs.Pattern.{Command, Pattern, Prep, Ent, Meas, FixX, FixZ}
-use Rattle.mc_model.specs.Amplitude.{amp, branch_map, start, placed, halvings, pattern_scale}
-use Rattle.mc_model.specs.Alike.{AlikeBranches, AlikeCommands, Disjoint}
+use Rattle.mc_model.specs.Amplitude.{halvings}
+use Rattle.mc_model.specs.Alike.{AlikeCommands}
 use Rattle.mc_model.specs.Valid.{IsValid, IsValidPattern, measured, prepared}
 use Rattle.mc_model.specs.StandardForm.{standard_commands, standard_form}
 use Rattle.mc_model.specs.Derivation.{x_first, x_second, z_first, z_second, x_measured, z_measured, swapped, x_joined, z_joined, edges_exchanged, same_cancelled, turned_cancelled, x_behind_z, z_behind_x, turned, x_dropped, z_dropped, Rule, Rewrites, Step, Use, Derives, Rank, rank, IsLower, no_use, one_use}
 use Rattle.mc_model.proofs.ValidLemmas.{measured-append, prepared-append}
-use Rattle.mc_model.proofs.AlikeLemmas.{alike_branches, alike_itself, alike_on}
-use Rattle.mc_standard.specs.Improves.{Improves, IsReached}
-use Rattle.mc_standard.specs.Laws.{with_commands, KeepsPattern, IsStandardised}
+use Rattle.mc_model.proofs.AlikeLemmas.{alike_itself, alike_on}
+use Rattle.mc_standard.specs.Improves.{IsReached}
+use Rattle.mc_standard.specs.Laws.{with_commands, IsStandardised}
 use Rattle.mc_standard.proofs.Moves.{step_alike}
 use Rattle.mc_standard.proofs.Settles.{improves_or_settled}
 use Rattle.mc_standard.proofs.SettledForm.{settled_is_standard}
-use Rattle.mc_standard.proofs.StandardAlike.{standard_alike}
 use Rattle.mc_standard.proofs.Derives.{rank_ind, standard_reached}
 
 -- two lists prepare and measure the same
@@ -109,9 +108,9 @@ qubits_inside before cs ds behind h = record {
   measurements = λ k.
       measured-append before (cs ++ behind) k
       ∙ ap (λ (b : Bool). measured before k || b)
-        (measured-append cs behind k
-        ∙ ap (λ (b : Bool). b || measured behind k) (h.measurements k)
-        ∙ sym (measured-append ds behind k))
+      (measured-append cs behind k
+      ∙ ap (λ (b : Bool). b || measured behind k) (h.measurements k)
+      ∙ sym (measured-append ds behind k))
       ∙ sym (measured-append before (ds ++ behind) k);
   scales =
       let e = halvings-append before (cs ++ behind) in
@@ -177,7 +176,7 @@ standard_qubits_at : (inputs : ℕ) (r : Rank) (cs : List Command) → rank cs �
     IsValid inputs cs → SameQubits cs (standard_commands inputs cs)
 standard_qubits_at inputs r =
     rank_ind (λ r. (cs : List Command) → rank cs ≡ r → IsValid inputs cs →
-      SameQubits cs (standard_commands inputs cs))
+    SameQubits cs (standard_commands inputs cs))
     (λ r ih cs e v. elim (improves_or_settled inputs cs v) [
       | inl w ↦
           qubits_on cs w.next (standard_commands inputs cs)
@@ -196,7 +195,7 @@ pub standardised : (p : Pattern) → IsValidPattern p → IsStandardised p
 unfolding standard_form
 standardised p v =
     let h : SameQubits p.commands (standard_commands p.inputs p.commands) =
-        standard_qubits p.inputs p.commands v.commands in
+    standard_qubits p.inputs p.commands v.commands in
     let r : IsReached p.inputs p.commands = standard_reached p.inputs p.commands v.commands in
     record {
       valid = valid_again p (standard_commands p.inputs p.commands) v h r.valid;

@@ -5,7 +5,8 @@ use Rattle.mc_model.specs.Valid.{IsValid}
 use Rattle.mc_model.specs.StandardForm.{standard_commands}
 use Rattle.mc_model.specs.Derivation.{Rule, Rank, rank, IsLower, Step}
 
--- the rank falls in one of its first two numbers, or the parts of both lists are in order and a later number falls
+-- the rank falls in one of its first two numbers, or the parts of both lists are in order and a
+-- later number falls
 abbrev pub Descends : Rank → Rank → Type 0
 Descends a b =
     ((a.late < b.late) ⊎ ((a.late ≡ b.late) × (a.ahead < b.ahead)))

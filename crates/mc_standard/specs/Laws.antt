@@ -10,7 +10,8 @@ use Rattle.mc_model.specs.StandardForm.{standard_commands, standard_form}
 use Rattle.mc_model.specs.Derivation.{Rule, Step, Use, Derives}
 use Rattle.mc_standard.specs.Improves.{Improves, IsReached}
 
--- whatever the outcomes, the branch map of a pattern is that of its standard form, up to one power of `w`
+-- whatever the outcomes, the branch map of a pattern is that of its standard form, up to one power
+-- of `w`
 abbrev pub StandardIsAlike : Type 0
 StandardIsAlike = (half : ℕ) → 0 < half → (p : Pattern) → IsValidPattern p → (o : Bits) →
     AlikeBranches (ring half) p o (standard_form p) o
@@ -24,7 +25,8 @@ pub record IsStandardised (p : Pattern) : Type 0 where
 abbrev pub StandardIsStandard : Type 0
 StandardIsStandard = (p : Pattern) → IsValidPattern p → IsStandardised p
 
--- a use of a rule, anywhere in a list, keeps what the list does at every outcome list, up to one power of `w`
+-- a use of a rule, anywhere in a list, keeps what the list does at every outcome list, up to one
+-- power of `w`
 abbrev pub StepIsAlike : Type 0
 StepIsAlike = (half : ℕ) → 0 < half → (inputs : ℕ) (rule : Rule) (place : ℕ)
     (cs ds : List Command) → Step inputs rule place cs ds → (o : Bits) →
@@ -39,7 +41,8 @@ with_commands p cs = record {
   commands = cs;
 }
 
--- uses of rules keep a pattern valid, and its branch maps up to one power of `w` for each outcome list
+-- uses of rules keep a pattern valid, and its branch maps up to one power of `w` for each outcome
+-- list
 pub record KeepsPattern (half : ℕ) (p : Pattern) (cs : List Command) : Type 0 where
   pub valid : IsValidPattern (with_commands p cs)
   pub alike : (o : Bits) → AlikeBranches (ring half) p o (with_commands p cs) o

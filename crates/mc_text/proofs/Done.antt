@@ -1,5 +1,5 @@
 -- How the reading of a section goes on.
-use Rattle.std.proofs.Common.{◌≡◌, ℕ, List, [], ◌∷◌, ◌++◌, true, false, Option, Some, None, refl, sym, ap, ◌∙◌, append_assoc}
+use Rattle.std.proofs.Common.{◌≡◌, List, [], ◌∷◌, ◌++◌, true, false, Option, Some, None, refl, sym, ap, ◌∙◌, append_assoc}
 use Rattle.std.proofs.lemmas.List.Sums.{fold-append}
 use Rattle.mc_lex.specs.declared.end.TextEnd.{TextEnd}
 use Rattle.mc_lex.specs.Lines.{Line}
@@ -8,7 +8,7 @@ use Rattle.mc_text.specs.declared.head.Head.{Head}
 use Rattle.mc_text.specs.declared.fault.Fault.TheVariants.{TextEnds}
 use Rattle.mc_text.specs.Heads.{head_in, is_end}
 use Rattle.mc_text.specs.Points.{last_head}
-use Rattle.mc_text.specs.Judged.{Judgement, fault, Words, Lines, Place, Rules, words_of, first_in_line, first_in_section, section_lines, behind_section}
+use Rattle.mc_text.specs.Judged.{fault, Words, Lines, Place, Rules, words_of, first_in_line, first_in_section, section_lines, behind_section}
 use Rattle.mc_text.specs.Stops.{IsEnd}
 use Rattle.mc_text.specs.Takes.{TakesLine, StopsInLine}
 use Rattle.mc_text.proofs.Ends.{ends_first}
@@ -29,7 +29,8 @@ last_head-more : (before : Lines) (words : Words) → last_head (before ++ words
 last_head-more before words =
     fold-append (λ (last : Option Head) line. head_in line) None before (words ∷ [])
 
-module _ {K : Type 0} (rules_of : K → Rules) (means : K → Lines → Words → Type 0) (rules : Rules) where
+module _ {K : Type 0} (rules_of : K → Rules) (means : K → Lines → Words → Type 0)
+    (rules : Rules) where
   pub done : (kept : K) (all : List Line) (end : Place) → rules_of kept ≡ rules
       → means kept [] [] → Done rules_of means rules kept None all all end
   done kept all end s m = record {
@@ -39,7 +40,7 @@ module _ {K : Type 0} (rules_of : K → Rules) (means : K → Lines → Words �
     same_last = refl;
     same = refl;
     lines = refl;
-    behind = refl
+    behind = refl;
   }
 
   pub one_more : (kept kept' : K) (last head : Option Head) (all lines : List Line) (end : Place)
@@ -52,8 +53,8 @@ module _ {K : Type 0} (rules_of : K → Rules) (means : K → Lines → Words �
       let p = rw e at takes in
       let t = p.taken h.before h.kept_means h.same_last in
       let clean : first_in_line rules h.before [] line.items line.lack ≡ None =
-            ap (λ (r : Rules). first_in_line r h.before [] line.items line.lack) (sym h.same_rules)
-              ∙ t.0 in
+      ap (λ (r : Rules). first_in_line r h.before [] line.items line.lack) (sym h.same_rules)
+      ∙ t.0 in
       let same_head = t.2 in
       let go = rw same_head at goes in
       rw e (record {
@@ -63,7 +64,7 @@ module _ {K : Type 0} (rules_of : K → Rules) (means : K → Lines → Words �
         same_last = same_head ∙ sym (last_head-more h.before (words_of line.items));
         same = h.same ∙ rw (clean, go) refl;
         lines = h.lines
-          ∙ rw go (sym (append_assoc h.before (words_of line.items ∷ []) (section_lines lines)));
+            ∙ rw go (sym (append_assoc h.before (words_of line.items ∷ []) (section_lines lines)));
         behind = h.behind ∙ rw go refl;
       })
 
@@ -72,18 +73,18 @@ module _ {K : Type 0} (rules_of : K → Rules) (means : K → Lines → Words �
       → TakesLine rules_of means kept kept' last left head → is_end head ≡ true
       → Done rules_of means rules kept last all lines end
       → (first_in_section rules [] all end ≡ None) × means kept' (section_lines all) []
-        × (left.later ≡ behind_section all) × (rules_of kept' ≡ rules)
+      × (left.later ≡ behind_section all) × (rules_of kept' ≡ rules)
   last_line kept kept' last head all [] end left some e takes stops h = absurd (cc some)
   last_line kept kept' last head all (line ∷ lines) end left some e takes stops h =
       let p = rw e at takes in
       let t = p.taken h.before h.kept_means h.same_last in
       let clean : first_in_line rules h.before [] line.items line.lack ≡ None =
-            ap (λ (r : Rules). first_in_line r h.before [] line.items line.lack) (sym h.same_rules)
-              ∙ t.0 in
+      ap (λ (r : Rules). first_in_line r h.before [] line.items line.lack) (sym h.same_rules)
+      ∙ t.0 in
       let same_head = t.2 in
       let stop = rw same_head at stops in
       let all_lines : section_lines all ≡ h.before ++ words_of line.items ∷ [] =
-            h.lines ∙ rw stop refl in
+      h.lines ∙ rw stop refl in
       let all_behind : behind_section all ≡ lines = h.behind ∙ rw stop refl in
       let none : first_in_section rules [] all end ≡ None = h.same ∙ rw (clean, stop) refl in
       (none, rw all_lines t.1, rw (e, all_behind) refl, p.same_rules ∙ h.same_rules)

@@ -1,12 +1,12 @@
 -- How reading ends.
-use Rattle.std.proofs.Common.{◌≡◌, ℕ, Option, Some, None, refl, sym, ◌∙◌}
+use Rattle.std.proofs.Common.{◌≡◌, ℕ, Option, Some, None, refl}
 use Rattle.mc_lex.specs.declared.end.TextEnd.{TextEnd}
 use Rattle.mc_lex.specs.declared.end.TextEnd.TheVariants as end
 use Rattle.mc_text.specs.declared.fault.Fault.{Fault}
 use Rattle.mc_text.specs.declared.fault.Stop.{Stop}
 use Rattle.mc_text.specs.declared.fault.Stop.TheVariants as stop
 use Rattle.mc_text.specs.Faults.{code_of}
-use Rattle.mc_text.specs.Judged.{Judgement, fault, limit, Place, placed, or_later}
+use Rattle.mc_text.specs.Judged.{Judgement, Place, placed, or_later}
 use Rattle.mc_text.specs.Rules.{or_next}
 use Rattle.mc_text.specs.Stops.{IsStop, answered, IsEnd}
 

@@ -11,9 +11,9 @@ use Rattle.mc_text.specs.declared.head.Head.{Head}
 use Rattle.mc_text.specs.declared.point.Point.{Point}
 use Rattle.mc_text.specs.Heads.{head_in}
 use Rattle.mc_text.specs.Points.{first_point, next_point, point_of, last_head}
-use Rattle.mc_text.specs.Judged.{Judgement, Words, Lines, Place, Rules, placed, words_of, first_in_line}
+use Rattle.mc_text.specs.Judged.{Words, Lines, Place, Rules, placed, words_of, first_in_line}
 use Rattle.mc_text.specs.Stops.{IsEnd}
-use Rattle.mc_text.specs.Takes.{TakesWord, TakesEnd, StopsAtWord, StopsAtEnd}
+use Rattle.mc_text.specs.Takes.{TakesWord, TakesEnd}
 use Rattle.mc_text.proofs.Ends.{ends_first}
 
 -- what was kept of the words so far means them, and the rest of the line has the first of the line
@@ -72,7 +72,14 @@ module _ {K : Type 0} (rules_of : K → Rules) (means : K → Lines → Words �
       → rules_of kept ≡ rules → means kept before [] → last ≡ last_head before
       → Going rules_of means rules before kept (first_point last) all all lack
   begins kept last all lack s m e =
-      record { here = []; same_rules = s; kept_means = m; at_point = rw e refl; words = refl; same = refl }
+      record {
+        here = [];
+        same_rules = s;
+        kept_means = m;
+        at_point = rw e refl;
+        words = refl;
+        same = refl;
+      }
 
   pub goes_on : (kept kept' : K) (point point' : Point) (bytes : List ℕ) (l c : ℕ)
       (all left rest : List Item) (lack : Place) → left ≡ word bytes l c ∷ rest
@@ -82,12 +89,14 @@ module _ {K : Type 0} (rules_of : K → Rules) (means : K → Lines → Words �
   goes_on kept kept' point point' bytes l c all left rest lack e takes p h =
       let t = takes.taken before h.here h.kept_means h.at_point in
       let clean : rules.judge before h.here bytes ≡ None =
-            ap (λ (r : Rules). r.judge before h.here bytes) (sym h.same_rules) ∙ t.0 in
+      ap (λ (r : Rules). r.judge before h.here bytes) (sym h.same_rules) ∙ t.0 in
       record {
         here = h.here ++ bytes ∷ [];
         same_rules = takes.same_rules ∙ h.same_rules;
         kept_means = t.1;
-        at_point = p ∙ ap (λ q. next_point q bytes) h.at_point ∙ sym (point_of-more before h.here bytes);
+        at_point = p
+            ∙ ap (λ q. next_point q bytes) h.at_point
+            ∙ sym (point_of-more before h.here bytes);
         words = h.words ∙ rw e (sym (append_assoc h.here (bytes ∷ []) (words_of rest)));
         same = h.same ∙ rw (e, clean) refl;
       }
@@ -95,14 +104,14 @@ module _ {K : Type 0} (rules_of : K → Rules) (means : K → Lines → Words �
   pub word_stops : (kept : K) (point : Point) (bytes : List ℕ) (l c : ℕ)
       (all left rest : List Item) (lack : Place) (end : TextEnd) → left ≡ word bytes l c ∷ rest
       → ((here : Words) → means kept before here → point ≡ point_of before here
-        → IsEnd end (placed (l, c) ((rules_of kept).judge before here bytes)))
+      → IsEnd end (placed (l, c) ((rules_of kept).judge before here bytes)))
       → Going rules_of means rules before kept point all left lack
       → IsEnd end (first_in_line rules before [] all lack)
   word_stops kept point bytes l c all left rest lack end e stops h =
       let s = stops h.here h.kept_means h.at_point in
       let judged = rw h.same_rules at s in
       rw (h.same, e) (ends_first end (placed (l, c) (rules.judge before h.here bytes))
-        (first_in_line rules before (h.here ++ bytes ∷ []) rest lack) judged)
+      (first_in_line rules before (h.here ++ bytes ∷ []) rest lack) judged)
 
   pub byte_stops : (kept : K) (point : Point) (l c : ℕ) (all left rest : List Item) (lack : Place)
       (end : TextEnd) → left ≡ bad l c ∷ rest
@@ -114,7 +123,7 @@ module _ {K : Type 0} (rules_of : K → Rules) (means : K → Lines → Words �
   pub line_stops : (kept : K) (point : Point) (all left : List Item) (lack : Place) (end : TextEnd)
       → left ≡ []
       → ((here : Words) → means kept before here → point ≡ point_of before here
-        → IsEnd end (placed lack ((rules_of kept).lacks before here)))
+      → IsEnd end (placed lack ((rules_of kept).lacks before here)))
       → Going rules_of means rules before kept point all left lack
       → IsEnd end (first_in_line rules before [] all lack)
   line_stops kept point all left lack end e stops h =
@@ -126,12 +135,12 @@ module _ {K : Type 0} (rules_of : K → Rules) (means : K → Lines → Words �
       → left ≡ [] → TakesEnd rules_of means kept kept' point
       → Going rules_of means rules before kept point all left lack
       → (first_in_line rules before [] all lack ≡ None)
-        × means kept' (before ++ words_of all ∷ []) []
-        × (point.head ≡ head_in (words_of all))
+      × means kept' (before ++ words_of all ∷ []) []
+      × (point.head ≡ head_in (words_of all))
   line_clean kept kept' point all left lack e ends h =
       let t = ends.taken before h.here h.kept_means h.at_point in
       let clean : rules.lacks before h.here ≡ None =
-            ap (λ (r : Rules). r.lacks before h.here) (sym h.same_rules) ∙ t.0 in
+      ap (λ (r : Rules). r.lacks before h.here) (sym h.same_rules) ∙ t.0 in
       let whole : words_of all ≡ h.here = h.words ∙ rw e (append-nil h.here) in
       let same = h.same in
       (rw (same, e, clean) refl, rw whole t.1, rw (h.at_point, whole) (head_at before h.here))

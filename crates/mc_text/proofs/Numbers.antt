@@ -1,15 +1,14 @@
 -- Names and their numbers.
-use Rattle.std.proofs.Common.{◌≡◌, ℕ, ◌+◌, ◌<◌, ◌≤◌, List, [], ◌∷◌, ◌++◌, Bool, true, false, not, ◌||◌, ◌&&◌, Option, Some, None, length, map, refl, sym, ap, ◌∙◌, arith, nat_lt, nat_le, nat_eq, get_or, unwrap_or, ◌⊎◌, inl, inr, cond}
+use Rattle.std.proofs.Common.{◌≡◌, ℕ, ◌<◌, ◌≤◌, List, [], ◌∷◌, Bool, true, false, ◌&&◌, Some, None, length, map, refl, sym, ap, ◌∙◌, arith, nat_lt, nat_le, nat_eq}
 use Rattle.std.specs.List.{position, position_or_len, list_any, list_all}
-use Rattle.std.proofs.lemmas.Bool.{cases_eq, eq-eqb, ltb-true}
+use Rattle.std.proofs.lemmas.Bool.{eq-eqb, ltb-true}
 use Rattle.std.proofs.lemmas.Bool.Decides.{Decides-eqb, nat_tests}
-use Rattle.std.proofs.Common.{ne_eqb, lt-ltb}
 use Rattle.std.proofs.lemmas.List.Quantifiers.{position-Some}
 use Rattle.std.proofs.lemmas.Slice.Eq.{slice_eq-Decides}
 use Rattle.mc_model.specs.Names.{is_name, name_eq, place_of, is_held}
 use Rattle.mc_names.specs.Stored.{name_eq-true}
-use Rattle.mc_text.specs.declared.fault.Fault.TheVariants.{DefinedTwice, NotDefined, ListedTwice}
-use Rattle.mc_text.specs.Judged.{Judgement, fault, limit}
+use Rattle.mc_text.specs.declared.fault.Fault.TheVariants.{DefinedTwice, ListedTwice}
+use Rattle.mc_text.specs.Judged.{fault, limit}
 use Rattle.mc_text.specs.Rules.{new_name, known_name, listed_name, number_in, AreNumbers}
 
 name_eq-same : (a b : List ℕ) → a ≡ b → name_eq a b ≡ true
@@ -50,7 +49,7 @@ pub held-place : (names : List (List ℕ)) (word : List ℕ) (q : ℕ) → place
     → is_held names word ≡ true
 held-place names word q e =
     held_by (name_eq word) names q (nat_lt (position_or_len (name_eq word) names) (length names))
-      refl e
+    refl e
 
 unheld_by : (p : List ℕ → Bool) (xs : List (List ℕ)) (t : Bool)
     → nat_lt (position_or_len p xs) (length xs) ≡ t → position p xs ≡ None → list_any p xs ≡ false
@@ -61,7 +60,7 @@ pub held-none : (names : List (List ℕ)) (word : List ℕ) → place_of names w
     → is_held names word ≡ false
 held-none names word e =
     unheld_by (name_eq word) names (nat_lt (position_or_len (name_eq word) names) (length names))
-      refl e
+    refl e
 
 place_by : (p : List ℕ → Bool) (xs : List (List ℕ)) (t : Bool)
     → nat_lt (position_or_len p xs) (length xs) ≡ t → list_any p xs ≡ true
@@ -75,7 +74,7 @@ pub place-held : (names : List (List ℕ)) (word : List ℕ) → is_held names w
     → (q : ℕ) × (place_of names word ≡ Some q)
 place-held names word h =
     place_by (name_eq word) names (nat_lt (position_or_len (name_eq word) names) (length names))
-      refl h
+    refl h
 
 -- two names with one number are the same
 pub place-same : (names : List (List ℕ)) (a b : List ℕ) (q : ℕ) → place_of names a ≡ Some q

@@ -8,11 +8,11 @@ use Rattle.mc_lex.specs.Lines.{Item}
 use Rattle.mc_text.specs.declared.fault.Fault.{Fault}
 use Rattle.mc_text.specs.declared.fault.Fault.TheVariants.{NotVersion, LineEnds, Surplus}
 use Rattle.mc_text.specs.Heads.{is_word}
-use Rattle.mc_text.specs.Judged.{Judgement, fault, Words, Lines, Rules, Place, first_in_line}
+use Rattle.mc_text.specs.Judged.{Judgement, fault, Words, Rules, Place, first_in_line}
 use Rattle.mc_text.specs.Rules.{broken}
 
--- the word that is to name a kind: `unknown` where it names none, and `refused` says which kinds may
--- not stand here
+-- the word that is to name a kind: `unknown` where it names none, and `refused` says which kinds
+-- may not stand here
 abbrev pub kind_judge : (Kind → Option Fault) → Fault → Option Kind → Option Judgement
 kind_judge refused unknown None = Some (fault unknown)
 kind_judge refused unknown (Some kind) = option_map fault (refused kind)
@@ -33,7 +33,7 @@ header_lacks unknown (kind ∷ version ∷ words) = None
 abbrev pub header_rules : (Kind → Option Fault) → Fault → Rules
 header_rules refused unknown = record {
   judge = λ before here word. header_judge refused unknown here word;
-  lacks = λ before here. header_lacks unknown here
+  lacks = λ before here. header_lacks unknown here;
 }
 
 -- the first fault of a line that is to be a header

@@ -21,8 +21,8 @@ Lines = List (List (List ℕ))
 abbrev pub Place : Type 0
 Place = ℕ × ℕ
 
--- what is judged in a kind of section, by the lines before and by the words before on the line: with
--- a word, and where a line ends behind its words
+-- what is judged in a kind of section, by the lines before and by the words before on the line:
+-- with a word, and where a line ends behind its words
 pub record Rules : Type 0 where
   pub judge : Lines → Words → List ℕ → Option Judgement
   pub lacks : Lines → Words → Option Judgement
@@ -43,7 +43,7 @@ abbrev pub first_in_line : Rules → Lines → Words → List Item → Place →
 first_in_line rules before here [] lack = placed lack (rules.lacks before here)
 first_in_line rules before here (word bytes line column ∷ items) lack =
     or_later (placed (line, column) (rules.judge before here bytes))
-      (first_in_line rules before (here ++ bytes ∷ []) items lack)
+    (first_in_line rules before (here ++ bytes ∷ []) items lack)
 first_in_line rules before here (bad line column ∷ items) lack =
     Some (fault StrayByte, (line, column))
 
@@ -58,14 +58,14 @@ words_of items = map word_of items
 abbrev pub is_last : Line → Bool
 is_last line = is_end (head_in (words_of line.items))
 
--- the first of the lines through `end`, behind the lines `before` of the section; where the text ends
--- before, that is a fault
+-- the first of the lines through `end`, behind the lines `before` of the section; where the text
+-- ends before, that is a fault
 abbrev pub first_in_section : Rules → Lines → List Line → Place → Option (Judgement × Place)
 first_in_section rules before [] end = Some (fault TextEnds, end)
 first_in_section rules before (line ∷ lines) end =
     or_later (first_in_line rules before [] line.items line.lack)
-      (if is_last line then None
-        else first_in_section rules (before ++ words_of line.items ∷ []) lines end)
+    (if is_last line then None
+    else first_in_section rules (before ++ words_of line.items ∷ []) lines end)
 
 -- the words of the lines through `end`, and the lines behind
 abbrev pub section_lines : List Line → Lines

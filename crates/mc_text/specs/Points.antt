@@ -27,7 +27,7 @@ next_point p word =
       last = p.last;
       head = p.head;
       count = if nat_lt p.count 4 then p.count + 1 else p.count;
-      mark = option_or (mark_of word) p.mark
+      mark = option_or (mark_of word) p.mark;
     }
 
 -- the record word of the last line

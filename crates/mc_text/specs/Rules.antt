@@ -26,7 +26,7 @@ or_next (Some judged) next = Some judged
 abbrev pub new_name : List (List ℕ) → List ℕ → Option Judgement
 new_name names word =
     or_next (broken ((not (is_name word), NotName) ∷ (is_held names word, DefinedTwice) ∷ []))
-      (passed (nat_le 256 (length names)) 2 257)
+    (passed (nat_le 256 (length names)) 2 257)
 
 -- a name that is used here
 abbrev pub known_name : List (List ℕ) → List ℕ → Option Judgement

@@ -7,7 +7,7 @@ use Rattle.mc_text.specs.declared.point.Point.{Point}
 use Rattle.mc_text.specs.declared.fault.Stop.{Stop}
 use Rattle.mc_text.specs.Heads.{head_in}
 use Rattle.mc_text.specs.Points.{point_of, last_head}
-use Rattle.mc_text.specs.Judged.{Judgement, Words, Lines, Rules, words_of, first_in_line}
+use Rattle.mc_text.specs.Judged.{Words, Lines, Rules, words_of, first_in_line}
 use Rattle.mc_text.specs.Stops.{IsStop, IsEnd}
 
 -- a word with nothing against it is kept
@@ -45,8 +45,8 @@ pub record TakesLine {K : Type 0} (rules : K → Rules) (means : K → Lines →
   pub same_rules : rules kept' ≡ rules kept
   pub taken : (before : Lines) → means kept before [] → last ≡ last_head before
       → (first_in_line (rules kept) before [] left.here left.lack ≡ None)
-        × means kept' (before ++ words_of left.here ∷ []) []
-        × (head ≡ head_in (words_of left.here))
+      × means kept' (before ++ words_of left.here ∷ []) []
+      × (head ≡ head_in (words_of left.here))
 
 -- an answer is that to the first fault or limit of a line
 abbrev pub StopsInLine : {K : Type 0} → (K → Rules) → (K → Lines → Words → Type 0) → K → Option Head

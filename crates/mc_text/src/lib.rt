@@ -1,7 +1,7 @@
 //! Sections of a text: the one way in which every kind of section is read.
 //!
-//! A kind of section implements [`Section`]: its rules judge each word, and the end of each line, by
-//! the lines before and the words before on the line. [`read_section`] answers the first fault or
+//! A kind of section implements [`Section`]: its rules judge each word, and the end of each line,
+//! by the lines before and the words before on the line. [`read_section`] answers the first fault or
 //! limit, or takes the whole section. The words, names, numbers and angles that several kinds share
 //! are judged here too.
 #![tactic(auto)]
@@ -13,7 +13,6 @@ mod line;
 mod point;
 mod rule;
 mod section;
-
 #[cfg(test)]
 mod tests;
 

@@ -68,7 +68,11 @@ impl Point {
         Point {
             last: self.last,
             head: self.head,
-            count: if self.count < 4 { self.count + 1 } else { self.count },
+            count: if self.count < 4 {
+                self.count + 1
+            } else {
+                self.count
+            },
             mark: Mark::read(word).or(self.mark),
         }
     }

@@ -18,8 +18,8 @@ const NAMES: u8 = 2;
 /// One more than the names that a text may define.
 const TOO_MANY: u64 = 257;
 
-/// Defines a name and gives its number. `NotName` where the word is none, `DefinedTwice` where it is
-/// defined, and the limit on names where 256 are.
+/// Defines a name and gives its number. `NotName` where the word is none, `DefinedTwice` where it
+/// is defined, and the limit on names where 256 are.
 pub fn define(names: &mut Names, word: &[u8]) -> Result<u16, Stop>
     ensures clean { OnOk result (new_name names.old word.now ≡ None) }
     ensures added { OnOk result (names.new ≡ names.old ++ word.now ∷ []) }
@@ -43,8 +43,8 @@ pub fn define(names: &mut Names, word: &[u8]) -> Result<u16, Stop>
     }
 }
 
-/// The number of a name that is used. `NotName` where the word is none, `NotDefined` where it is not
-/// defined.
+/// The number of a name that is used. `NotName` where the word is none, `NotDefined` where it is
+/// not defined.
 pub fn known(names: &Names, word: &[u8]) -> Result<u16, Stop>
     ensures clean { OnOk result (known_name names.now word.now ≡ None) }
     ensures name { OnOk result (is_name word.now ≡ true) }
@@ -68,7 +68,8 @@ pub fn unlisted(names: &Names, listed: &[u16], word: &[u8]) -> Result<u16, Stop>
     ensures name { OnOk result (is_name word.now ≡ true) }
     ensures place { IfOk result (λ number. place_of names.now word.now ≡ Some number) }
     ensures err { IfErr result (λ stop. (list : List (List ℕ))
-        → AreNumbers names.now list listed.now → IsStop stop (listed_name names.now list word.now)) }
+        → AreNumbers names.now list listed.now
+        → IsStop stop (listed_name names.now list word.now)) }
 {
     match known(names, word) {
         Ok(number) => {

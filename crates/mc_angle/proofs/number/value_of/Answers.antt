@@ -1,6 +1,5 @@
-use Rattle.std.proofs.Common.{◌≡◌, ◌+◌, ◌-◌, ◌*◌, ◌^◌, ◌<◌, ◌≤◌, take, true, slice_index_or, arith, refl}
+use Rattle.std.proofs.Common.{◌-◌, take, slice_index_or, refl}
 use Rattle.std.proofs.lemmas.List.{take_more}
-use Rattle.mc_angle.specs.Number.{number_of}
 use Rattle.mc_angle.proofs.Digits.{digit_at, number_of-push, next_small}
 use Rattle.mc_angle.proofs.number.value_of.Goals as goal
 
@@ -16,5 +15,6 @@ digits-preserved c =
             number_of-push (take i word) (slice_index_or word i 0),
             ← c.digits.invariant.value,
           ) refl;
-      small = next_small i c.digits.sum (slice_index_or word i 0 - 48) c.digits.invariant.small digit;
+      small =
+          next_small i c.digits.sum (slice_index_or word i 0 - 48) c.digits.invariant.small digit;
     }

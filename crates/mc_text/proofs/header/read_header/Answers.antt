@@ -12,12 +12,12 @@ returns-in-Some-refused-clause-further g c =
 pub returns-in-Ok-clause-further : goal.returns-in-Ok-clause-further
 returns-in-Ok-clause-further g c =
     further-further _ _ _ (further-token _ _ _ c.in-Word.ensures.left (further-same _))
-      c.in-Ok.ensures.further
+    c.in-Ok.ensures.further
 
 pub returns-in-Err-clause-further : goal.returns-in-Err-clause-further
 returns-in-Err-clause-further g c =
     further-further _ _ _ (further-token _ _ _ c.in-Word.ensures.left (further-same _))
-      c.in-Err.ensures.further
+    c.in-Err.ensures.further
 
 pub returns-in-Some-refused-clause-err : goal.returns-in-Some-refused-clause-err
 returns-in-Some-refused-clause-err g c =
@@ -28,14 +28,16 @@ returns-in-Some-refused-clause-err g c =
 
 pub returns-in-Ok-clause-clean : goal.returns-in-Ok-clause-clean
 returns-in-Ok-clause-clean g c =
-    let rules = header_rules (g.K.Kinds.refused c.args.kinds.now) (g.K.Kinds.unknown c.args.kinds.now) in
+    let kinds = g.K.Kinds in
+    let rules =
+    header_rules (kinds.refused c.args.kinds.now) (kinds.unknown c.args.kinds.now) in
     let w = c.in-Word.word in
     let kind = sym c.in-Some.ensures in
     let refused = sym c.in_default-refused.ensures in
     let clean : rules.judge [] [] w.bytes.now ≡ None = rw (kind, refused) refl in
     first_step rules [] [] c.args.words.now c.next.new.self w.bytes.now w.line w.column
-      c.in-Word.ensures.token c.in-Word.ensures.left clean
-      ∙ c.in-Ok.ensures.clean w.bytes.now
+    c.in-Word.ensures.token c.in-Word.ensures.left clean
+    ∙ c.in-Ok.ensures.clean w.bytes.now
 
 pub returns-in-Ok-clause-header : goal.returns-in-Ok-clause-header
 returns-in-Ok-clause-header g c =
@@ -44,11 +46,13 @@ returns-in-Ok-clause-header g c =
 
 pub returns-in-Err-clause-err : goal.returns-in-Err-clause-err
 returns-in-Err-clause-err g c =
-    let rules = header_rules (g.K.Kinds.refused c.args.kinds.now) (g.K.Kinds.unknown c.args.kinds.now) in
+    let kinds = g.K.Kinds in
+    let rules =
+    header_rules (kinds.refused c.args.kinds.now) (kinds.unknown c.args.kinds.now) in
     let w = c.in-Word.word in
     let kind = sym c.in-Some.ensures in
     let refused = sym c.in_default-refused.ensures in
     let clean : rules.judge [] [] w.bytes.now ≡ None = rw (kind, refused) refl in
     let step = first_step rules [] [] c.args.words.now c.next.new.self w.bytes.now w.line w.column
-          c.in-Word.ensures.token c.in-Word.ensures.left clean in
+    c.in-Word.ensures.token c.in-Word.ensures.left clean in
     rw step (c.in-Err.ensures.err w.bytes.now)

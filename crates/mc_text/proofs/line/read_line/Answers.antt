@@ -21,8 +21,9 @@ tokens-preserved g c =
     let takes = c.in_default.ensures.ok in
     let front = front-cons c.tokens.words c.next.new.self _ c.in-Word.ensures.token left in
     record {
-      going = λ before m e. goes_on s.rules s.means (s.rules kept) before _ _ _ _ _ _ _ _ _ _ _ front
-        takes c.behind-point.ensures (invariant.going before m e);
+      going = λ before m e. goes_on s.rules s.means (s.rules kept) before _ _ _ _ _ _ _ _ _ _ _
+          front
+          takes c.behind-point.ensures (invariant.going before m e);
       same = takes.same_rules ∙ invariant.same;
       lack = ap (λ (l : Left). l.lack) left ∙ invariant.lack;
       later = ap (λ (l : Left). l.later) left ∙ invariant.later;
@@ -40,5 +41,5 @@ returns-in-Ok-clause-ok g c =
     record {
       same_rules = takes.same_rules ∙ invariant.same;
       taken = λ before m e. line_clean s.rules s.means (s.rules kept) before _ _ _ _ _ _ none takes
-        (invariant.going before m e);
+          (invariant.going before m e);
     }

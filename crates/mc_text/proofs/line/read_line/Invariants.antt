@@ -1,6 +1,5 @@
 use Rattle.std.proofs.Common.{◌≡◌, [], length}
 use Rattle.mc_lex.specs.Left.{IsFurther}
-use Rattle.mc_lex.proofs.Further.{further-same, further-token}
 use Rattle.mc_text.specs.Points.{last_head}
 use Rattle.mc_text.specs.Judged.{Lines}
 use Rattle.mc_text.proofs.Going.{Going}
@@ -11,7 +10,7 @@ invariant-tokens g l = record {
   going : (before : Lines) → g.S.Section.means l.initial.section before []
       → l.fn.last ≡ last_head before
       → Going g.S.Section.rules g.S.Section.means (g.S.Section.rules l.initial.section) before
-          l.section l.point l.initial.words.here l.words.here l.initial.words.lack;
+      l.section l.point l.initial.words.here l.words.here l.initial.words.lack;
   same : g.S.Section.rules l.section ≡ g.S.Section.rules l.initial.section;
   lack : l.words.lack ≡ l.initial.words.lack;
   later : l.words.later ≡ l.initial.words.later;

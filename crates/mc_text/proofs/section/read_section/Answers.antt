@@ -1,4 +1,4 @@
-use Rattle.std.proofs.Common.{◌≡◌, ℕ, ◌∙◌, ap, sym}
+use Rattle.std.proofs.Common.{ℕ, ◌∙◌, ap, sym}
 use Rattle.mc_lex.specs.Left.{on_first}
 use Rattle.mc_lex.proofs.Further.{further-read, further-line}
 use Rattle.mc_text.proofs.Done.{one_more, last_kept}
@@ -21,11 +21,11 @@ lines-preserved g c =
     let s = g.S.Section in
     let invariant = c.lines.invariant in
     let left = c.next_line.ensures.left
-          ∙ ap (λ (end : ℕ × ℕ). on_first c.lines.words.later end) invariant.last in
+    ∙ ap (λ (end : ℕ × ℕ). on_first c.lines.words.later end) invariant.last in
     let some = sym c.next_line.ensures.found ∙ c.lines-test.true in
     let goes = sym c.is_end.ensures ∙ c.if-is_end.false in
     let more = one_more s.rules s.means (s.rules c.args.section.now) _ _ _ _ _ _ _ _ some left
-          c.in-Ok.ensures.ok goes invariant.done in
+    c.in-Ok.ensures.ok goes invariant.done in
     let read = c.in-Ok.ensures in
     record {
       done = rw read.later more;

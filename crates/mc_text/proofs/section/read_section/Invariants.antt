@@ -1,6 +1,5 @@
 use Rattle.std.proofs.Common.{◌≡◌, length}
 use Rattle.mc_lex.specs.Left.{IsFurther}
-use Rattle.mc_lex.proofs.Further.{further-same, further-line, further-further}
 use Rattle.mc_text.proofs.Done.{Done}
 use Rattle.mc_text.proofs.section.read_section.Given as goal
 

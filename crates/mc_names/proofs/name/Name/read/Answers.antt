@@ -7,4 +7,6 @@ pub invariant_of-result : goal.invariant_of-result
 invariant_of-result c =
     let word = c.args.word.now in
     let named : IsTrue (is_name word) = sym c.spells_name.ensures ∙ c.if-not-spells_name.false in
-    stored_name word _ named (short_name word named) (ap (λ (front : List ℕ). front ++ drop (length word) (replicate 16 0)) c.copy_from_slice.ensures.after)
+    stored_name word _ named (short_name word named)
+    (ap (λ (front : List ℕ). front ++ drop (length word) (replicate 16 0))
+    c.copy_from_slice.ensures.after)

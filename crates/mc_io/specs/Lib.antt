@@ -1,0 +1,7 @@
+pub mod Faults
+pub mod Told
+pub mod Calls
+pub mod Plan
+pub mod Memory
+pub mod Honest
+pub mod Whole

@@ -1,0 +1,423 @@
+-- The patterns of an open graph are valid.
+use Rattle.std.proofs.Common.{◌≡◌, ℕ, zero, suc, ◌+◌, ◌-◌, ◌<◌, ◌≤◌, Bool, true, false, cond, ◌&&◌, ◌||◌, not, map, List, [], ◌∷◌, ◌++◌, refl, sym, ◌∙◌, ap, ap₂, append_assoc, append-nil, arith}
+use Rattle.std.specs.Prelude.{⊤, nat_eq, filter, flat_map, is_none}
+use Rattle.std.specs.List.{AllByRecursion}
+use Rattle.std.proofs.lemmas.Bool.{eq-eqb, and_parts, not-true, cases_eq, cases_Bool, lt-ltb, true≢false}
+use mathlib.Core.Path.{subst}
+use mathlib.Core.Logic.{inl, inr}
+use Rattle.mc_model.specs.Numbers.{numbers_from, numbers_where, is_member}
+use Rattle.mc_model.specs.Bits.{Bits, all_zero, replaced}
+use Rattle.mc_model.specs.Signals.{Signal, signal_of, IsRising}
+use Rattle.mc_model.specs.Pattern.{Command, Prep, Ent, Meas, FixX, FixZ}
+use Rattle.mc_model.specs.Valid.{prepared, measured, AllDone, IsLive, SignalFits, FitsBehind, IsValid, IsValidPattern}
+use Rattle.mc_model.specs.Translation.{preparations}
+use Rattle.mc_model.specs.Graph.{Edge, OpenGraph, size, is_output, base_angle, odd_neighbourhood, EdgesRise, IsOpenGraph, entanglings, graph_state, bare_measurement, zero_pattern}
+use Rattle.mc_model.specs.Flow.{IsFlow, depth_of}
+use Rattle.mc_model.specs.Made.{measuring_order, corrected_measurement, flow_pattern}
+use Rattle.mc_model.proofs.BitLemmas.{replaced_same, replaced_other}
+use Rattle.mc_model.proofs.ValidLemmas.{measured-append, prepared-append, next_measured, none_measured, valid_with, nothing_valid}
+use Rattle.mc_make.proofs.MeasuringOrder.{IsLater, IsOrder, IsWhere, where_all, all-weaker, measured_in_order}
+use Rattle.mc_make.proofs.OrderLists.{count-where, order_once, member_once}
+
+-- ---- lists without preparations, beside the qubits that are there and those that were measured
+
+abbrev IsThere : ℕ → Bits → ℕ → Type 0
+IsThere total done q = (q < total) × (done q ≡ false)
+
+abbrev IsIn : Bits → Signal → Type 0
+IsIn done s = IsRising s.members × AllDone done s.members
+
+abbrev Follows : ℕ → Bits → List Command → Type 0
+Follows total done [] = ⊤
+Follows total done (Prep q ∷ cs) = ⊥
+Follows total done (Ent q r ∷ cs) =
+    IsThere total done q × IsThere total done r × (q ≡ r → ⊥) × Follows total done cs
+Follows total done (Meas q a s t ∷ cs) =
+    IsThere total done q × IsIn done s × IsIn done t × Follows total (replaced done q true) cs
+Follows total done (FixX q s ∷ cs) = IsThere total done q × IsIn done s × Follows total done cs
+Follows total done (FixZ q s ∷ cs) = IsThere total done q × IsIn done s × Follows total done cs
+
+-- what stands before leaves these qubits
+record Leaves (inputs : ℕ) (before : List Command) (total : ℕ) (done : Bits) : Type 0 where
+  valid : IsValid inputs before
+  there : inputs + prepared before ≡ total
+  gone : measured before ≡ done
+
+live_from : (inputs : ℕ) (before : List Command) (total : ℕ) (done : Bits) (q : ℕ) →
+    Leaves inputs before total done → IsThere total done q → IsLive inputs before q
+live_from inputs before total done q l h = record {
+  is_there = let e = l.there in let t = h.0 in omega arith;
+  is_not_measured = ap (λ (m : Bits). m q) l.gone ∙ h.1;
+}
+
+signal_from : (inputs : ℕ) (before : List Command) (total : ℕ) (done : Bits) (s : Signal) →
+    Leaves inputs before total done → IsIn done s → SignalFits before s
+signal_from inputs before total done s l h = record {
+  is_set = h.0;
+  is_done = subst (λ (m : Bits). AllDone m s.members) (sym l.gone) h.1;
+}
+
+-- one more command that prepares nothing
+leaves_more : (inputs : ℕ) (before : List Command) (total : ℕ) (done now : Bits) (c : Command) →
+    Leaves inputs before total done → prepared (c ∷ []) ≡ 0 → FitsBehind inputs before c →
+    measured (before ++ (c ∷ [])) ≡ now → Leaves inputs (before ++ (c ∷ [])) total now
+leaves_more inputs before total done now c l none fits e = record {
+  valid = valid_with inputs before c l.valid fits;
+  there = let p = prepared-append before (c ∷ []) in let t = l.there in omega arith;
+  gone = e;
+}
+
+no_prep : (inputs : ℕ) (before : List Command) (c : Command) (rest : List Command) →
+    IsValid inputs ((before ++ (c ∷ [])) ++ rest) → IsValid inputs (before ++ (c ∷ rest))
+no_prep inputs before c rest v = subst (IsValid inputs) (append_assoc before (c ∷ []) rest) v
+
+valid_following : (inputs : ℕ) (before : List Command) (total : ℕ) (done : Bits)
+    (cs : List Command) → Leaves inputs before total done → Follows total done cs →
+    IsValid inputs (before ++ cs)
+unfolding prepared measured
+valid_following inputs before total done [] l f =
+    subst (IsValid inputs) (sym (append-nil before)) l.valid
+valid_following inputs before total done (Prep q ∷ cs) l f = absurd f
+valid_following inputs before total done (Ent q r ∷ cs) l f =
+    no_prep inputs before (Ent q r) cs
+    (valid_following inputs (before ++ (Ent q r ∷ [])) total done cs
+    (leaves_more inputs before total done done (Ent q r) l refl
+    (live_from inputs before total done q l f.0, live_from inputs before total done r l f.1, f.2)
+    (none_measured before (Ent q r) (λ k. refl) ∙ l.gone))
+    f.3)
+valid_following inputs before total done (Meas q a s t ∷ cs) l f =
+    no_prep inputs before (Meas q a s t) cs
+    (valid_following inputs (before ++ (Meas q a s t ∷ [])) total (replaced done q true) cs
+    (leaves_more inputs before total done (replaced done q true) (Meas q a s t) l refl (
+      live_from inputs before total done q l f.0,
+      signal_from inputs before total done s l f.1,
+      signal_from inputs before total done t l f.2,
+    )
+    (next_measured before q a s t ∙ ap (λ (m : Bits). replaced m q true) l.gone))
+    f.3)
+valid_following inputs before total done (FixX q s ∷ cs) l f =
+    no_prep inputs before (FixX q s) cs
+    (valid_following inputs (before ++ (FixX q s ∷ [])) total done cs
+    (leaves_more inputs before total done done (FixX q s) l refl
+    (live_from inputs before total done q l f.0, signal_from inputs before total done s l f.1)
+    (none_measured before (FixX q s) (λ k. refl) ∙ l.gone))
+    f.2)
+valid_following inputs before total done (FixZ q s ∷ cs) l f =
+    no_prep inputs before (FixZ q s) cs
+    (valid_following inputs (before ++ (FixZ q s ∷ [])) total done cs
+    (leaves_more inputs before total done done (FixZ q s) l refl
+    (live_from inputs before total done q l f.0, signal_from inputs before total done s l f.1)
+    (none_measured before (FixZ q s) (λ k. refl) ∙ l.gone))
+    f.2)
+
+follows-prepared : (total : ℕ) (done : Bits) (cs : List Command) → Follows total done cs →
+    prepared cs ≡ 0
+unfolding prepared
+follows-prepared total done [] f = refl
+follows-prepared total done (Prep q ∷ cs) f = absurd f
+follows-prepared total done (Ent q r ∷ cs) f = follows-prepared total done cs f.3
+follows-prepared total done (Meas q a s t ∷ cs) f =
+    follows-prepared total (replaced done q true) cs f.3
+follows-prepared total done (FixX q s ∷ cs) f = follows-prepared total done cs f.2
+follows-prepared total done (FixZ q s ∷ cs) f = follows-prepared total done cs f.2
+
+-- ---- the graph state
+
+leaves_preparations : (inputs : ℕ) (before : List Command) (q n : ℕ) →
+    Leaves inputs before q all_zero → Leaves inputs (before ++ preparations q n) (q + n) all_zero
+unfolding preparations prepared measured
+leaves_preparations inputs before q zero l =
+    subst (λ (cs : List Command). Leaves inputs cs (q + 0) all_zero) (sym (append-nil before))
+    (record { valid = l.valid; there = let t = l.there in omega arith; gone = l.gone })
+leaves_preparations inputs before q (suc n) l =
+    let there = l.there in
+    let p = prepared-append before (Prep q ∷ []) in
+    let e : suc q + n ≡ q + suc n = omega arith in
+    let more : Leaves inputs (before ++ (Prep q ∷ [])) (suc q) all_zero = record {
+      valid = valid_with inputs before (Prep q) l.valid (sym l.there);
+      there = omega arith;
+      gone = none_measured before (Prep q) (λ k. refl) ∙ l.gone;
+    } in
+    subst (λ (m : ℕ). Leaves inputs (before ++ (Prep q ∷ preparations (suc q) n)) m all_zero) e
+    (subst (λ (cs : List Command). Leaves inputs cs (suc q + n) all_zero)
+    (append_assoc before (Prep q ∷ []) (preparations (suc q) n))
+    (leaves_preparations inputs (before ++ (Prep q ∷ [])) (suc q) n more))
+
+prepared_all : (g : OpenGraph) → IsOpenGraph g →
+    Leaves g.inputs (preparations g.inputs (size g - g.inputs)) (size g) all_zero
+unfolding prepared measured
+prepared_all g valid =
+    let low = valid.inputs in
+    let e : g.inputs + (size g - g.inputs) ≡ size g = omega arith in
+    let none : g.inputs + 0 ≡ g.inputs = omega arith in
+    subst (λ (m : ℕ). Leaves g.inputs (preparations g.inputs (size g - g.inputs)) m all_zero) e
+    (leaves_preparations g.inputs [] g.inputs (size g - g.inputs)
+    (record { valid = nothing_valid g.inputs; there = none; gone = refl }))
+
+follows_edges : (n : ℕ) (es : List Edge) (rest : List Command) → EdgesRise n es →
+    Follows n all_zero rest → Follows n all_zero (entanglings es ++ rest)
+follows_edges n [] rest rise f = f
+follows_edges n (e ∷ es) rest rise f =
+    let low = rise.0 in
+    let high = rise.1 in (
+      (omega arith, refl),
+      (high, refl),
+      (λ d. absurd (omega arith)),
+      follows_edges n es rest rise.3 f,
+    )
+
+-- a list that may follow the graph state
+follows_graph : (g : OpenGraph) (rest : List Command) → IsOpenGraph g →
+    Follows (size g) all_zero rest → IsValid g.inputs (graph_state g ++ rest)
+follows_graph g rest valid f =
+    let prepared : List Command = preparations g.inputs (size g - g.inputs) in
+    subst (IsValid g.inputs) (sym (append_assoc prepared (entanglings g.edges) rest))
+    (valid_following g.inputs prepared (size g) all_zero (entanglings g.edges ++ rest)
+    (prepared_all g valid) (follows_edges (size g) g.edges rest valid.edges f))
+
+-- ---- measurements and corrections
+
+follows_xs : (n : ℕ) (done : Bits) (s : Signal) (qs : List ℕ) (rest : List Command) →
+    IsIn done s → AllByRecursion (IsThere n done) qs → Follows n done rest →
+    Follows n done (map (λ k. FixX k s) qs ++ rest)
+follows_xs n done s [] rest i all f = f
+follows_xs n done s (q ∷ qs) rest i all f = (all.0, i, follows_xs n done s qs rest i all.1 f)
+
+follows_zs : (n : ℕ) (done : Bits) (s : Signal) (qs : List ℕ) (rest : List Command) →
+    IsIn done s → AllByRecursion (IsThere n done) qs → Follows n done rest →
+    Follows n done (map (λ k. FixZ k s) qs ++ rest)
+follows_zs n done s [] rest i all f = f
+follows_zs n done s (q ∷ qs) rest i all f = (all.0, i, follows_zs n done s qs rest i all.1 f)
+
+-- each measured vertex is before the listed one
+abbrev IsBefore : (ℕ → ℕ) → Bits → ℕ → Type 0
+IsBefore layer done j = (k : ℕ) → done k ≡ true → IsLater layer k j
+
+not_yet : (layer : ℕ → ℕ) (done : Bits) (i k : ℕ) → IsBefore layer done i → layer k < layer i →
+    replaced done i true k ≡ false
+not_yet layer done i k before low = elim (cases_eq k i) [
+  | inl e ↦ (let f : layer k ≡ layer i = ap layer e in absurd (omega arith))
+  | inr ne ↦ replaced_other done i true k ne ∙ (elim (cases_Bool (done k)) [
+    | inl d ↦ (let h = (before k d).0 in absurd (omega arith))
+    | inr d ↦ d
+  ])
+]
+
+before_more : (layer : ℕ → ℕ) (done : Bits) (i : ℕ) (js : List ℕ) →
+    AllByRecursion (IsLater layer i) js → AllByRecursion (IsBefore layer done) js →
+    AllByRecursion (IsBefore layer (replaced done i true)) js
+before_more layer done i [] later before = tt
+before_more layer done i (j ∷ js) later before = (
+  λ k d. elim (cases_eq k i) [
+    | inl e ↦ subst (λ (m : ℕ). IsLater layer m j) (sym e) later.0
+    | inr ne ↦ before.0 k (sym (replaced_other done i true k ne) ∙ d)
+  ],
+  before_more layer done i js later.1 before.1,
+)
+
+follows_flow : (g : OpenGraph) (sets : ℕ → Bits) (layer : ℕ → ℕ) (flow : IsFlow g sets layer)
+    (done : Bits) (is : List ℕ) → IsOrder g layer is → AllByRecursion (IsBefore layer done) is →
+    Follows (size g) done (flat_map (λ i. corrected_measurement g (sets i) i) is)
+unfolding corrected_measurement
+follows_flow g sets layer flow done [] order before = tt
+follows_flow g sets layer flow done (i ∷ is) order before =
+    let at = flow.corrects i order.0.vertex order.0.no_output in
+    let n : ℕ = size g in
+    let now : Bits = replaced done i true in
+    let odds : Bits = λ k. odd_neighbourhood g (sets i) k && not (nat_eq k i) in
+    let xs : List Command = map (λ k. FixX k (signal_of i)) (numbers_where (sets i) n) in
+    let zs : List Command = map (λ k. FixZ k (signal_of i)) (numbers_where odds n) in
+    let rest : List Command = flat_map (λ j. corrected_measurement g (sets j) j) is in
+    let own : IsIn now (signal_of i) = ((tt, tt), (replaced_same done i true, tt)) in
+    let behind : Follows n now rest =
+    follows_flow g sets layer flow now is order.2 (before_more layer done i is order.1 before.1) in
+    let in_xs : AllByRecursion (IsThere n now) (numbers_where (sets i) n) =
+    all-weaker (IsWhere (sets i) 0 n) (IsThere n now)
+    (λ k w. let high = w.2 in
+    (omega arith, not_yet layer done i k before.0 (at.set_later k w.0)))
+    (numbers_where (sets i) n) (where_all (sets i) 0 n) in
+    let in_zs : AllByRecursion (IsThere n now) (numbers_where odds n) =
+    all-weaker (IsWhere odds 0 n) (IsThere n now)
+    (λ k w. let high = w.2 in
+    let l : k < n = omega arith in
+    let parts = and_parts (odd_neighbourhood g (sets i) k) (not (nat_eq k i)) w.0 in
+    (l, not_yet layer done i k before.0 (at.odd_later k l (other k i parts.1) parts.0)))
+    (numbers_where odds n) (where_all odds 0 n) in (
+      (order.0.vertex, new_one done layer i before.0),
+      (tt, tt),
+      (tt, tt),
+      subst (Follows n now) (sym (append_assoc xs zs rest))
+          (follows_xs n now (signal_of i) (numbers_where (sets i) n) (zs ++ rest) own in_xs
+          (follows_zs n now (signal_of i) (numbers_where odds n) rest own in_zs behind)),
+    )
+  where
+    other : (k i : ℕ) → not (nat_eq k i) ≡ true → k ≡ i → ⊥
+    other k i e d = true≢false (sym (eq-eqb k i d) ∙ not-true (nat_eq k i) e)
+
+    new_one : (done : Bits) (layer : ℕ → ℕ) (i : ℕ) → IsBefore layer done i → done i ≡ false
+    new_one done layer i before = elim (cases_Bool (done i)) [
+      | inl d ↦ absurd ((before i d).1 refl)
+      | inr d ↦ d
+    ]
+
+-- measurements by rising number
+follows_rising : (g : OpenGraph) (done p : Bits) (total q n : ℕ) →
+    ((k : ℕ) → done k ≡ true → k < q) → q + n ≤ total →
+    Follows total done (map (bare_measurement g) (filter p (numbers_from q n)))
+follows_rising g done p total q zero low l = tt
+follows_rising g done p total q (suc n) low l = elim (cases_Bool (p q)) [
+  | inl e ↦
+      rw e (
+        (omega arith, new_one),
+        (tt, tt),
+        (tt, tt),
+        follows_rising g (replaced done q true) p total (suc q) n now_low (omega arith),
+      )
+  | inr e ↦
+      rw e (follows_rising g done p total (suc q) n
+      (λ k d. let h = low k d in omega arith) (omega arith))
+]
+  where
+    new_one : done q ≡ false
+    new_one = elim (cases_Bool (done q)) [
+      | inl d ↦ (let h = low q d in absurd (omega arith))
+      | inr d ↦ d
+    ]
+
+    now_low : (k : ℕ) → replaced done q true k ≡ true → k < suc q
+    now_low k d = elim (cases_eq k q) [
+      | inl e ↦ omega arith
+      | inr ne ↦ (let h = low k (sym (replaced_other done q true k ne) ∙ d) in omega arith)
+    ]
+
+-- ---- what is measured
+
+measured-preparations : (q n k : ℕ) → measured (preparations q n) k ≡ false
+unfolding measured preparations
+measured-preparations q zero k = refl
+measured-preparations q (suc n) k = measured-preparations (suc q) n k
+
+measured-edges : (es : List Edge) (k : ℕ) → measured (entanglings es) k ≡ false
+unfolding measured
+measured-edges [] k = refl
+measured-edges (e ∷ es) k = measured-edges es k
+
+measured-xs : (s : Signal) (qs : List ℕ) (k : ℕ) → measured (map (λ q. FixX q s) qs) k ≡ false
+unfolding measured
+measured-xs s [] k = refl
+measured-xs s (q ∷ qs) k = measured-xs s qs k
+
+measured-zs : (s : Signal) (qs : List ℕ) (k : ℕ) → measured (map (λ q. FixZ q s) qs) k ≡ false
+unfolding measured
+measured-zs s [] k = refl
+measured-zs s (q ∷ qs) k = measured-zs s qs k
+
+or_false : (b : Bool) → (b || false) ≡ b
+or_false b = grind arith
+
+measured-graph : (g : OpenGraph) (rest : List Command) (k : ℕ) →
+    measured (graph_state g ++ rest) k ≡ measured rest k
+measured-graph g rest k =
+    let prepared : List Command = preparations g.inputs (size g - g.inputs) in
+    measured-append (graph_state g) rest k
+    ∙ ap (λ (b : Bool). b || measured rest k)
+    (measured-append prepared (entanglings g.edges) k
+    ∙ ap₂ (λ (a b : Bool). a || b) (measured-preparations g.inputs (size g - g.inputs) k)
+    (measured-edges g.edges k))
+
+measured-flow : (g : OpenGraph) (sets : ℕ → Bits) (is : List ℕ) (k : ℕ) →
+    measured (flat_map (λ i. corrected_measurement g (sets i) i) is) k ≡ is_member is k
+unfolding corrected_measurement measured
+measured-flow g sets [] k = refl
+measured-flow g sets (i ∷ is) k =
+    let n : ℕ = size g in
+    let odds : Bits = λ j. odd_neighbourhood g (sets i) j && not (nat_eq j i) in
+    let xs : List Command = map (λ j. FixX j (signal_of i)) (numbers_where (sets i) n) in
+    let zs : List Command = map (λ j. FixZ j (signal_of i)) (numbers_where odds n) in
+    let rest : List Command = flat_map (λ j. corrected_measurement g (sets j) j) is in
+    ap (λ (b : Bool). nat_eq k i || b)
+    (measured-append (xs ++ zs) rest k
+    ∙ ap₂ (λ (a b : Bool). a || b)
+    (measured-append xs zs k
+    ∙ ap₂ (λ (a b : Bool). a || b) (measured-xs (signal_of i) (numbers_where (sets i) n) k)
+    (measured-zs (signal_of i) (numbers_where odds n) k))
+    (measured-flow g sets is k))
+
+measured-bare : (g : OpenGraph) (qs : List ℕ) (k : ℕ) →
+    measured (map (bare_measurement g) qs) k ≡ is_member qs k
+unfolding measured
+measured-bare g [] k = refl
+measured-bare g (q ∷ qs) k = ap (λ (b : Bool). nat_eq k q || b) (measured-bare g qs k)
+
+-- ---- patterns
+
+not_not : (b : Bool) → not (not b) ≡ b
+not_not b = grind arith
+
+-- a valid pattern, where the vertices that are no outputs are measured behind the graph state
+patterned : (g : OpenGraph) (rest : List Command) → IsOpenGraph g →
+    Follows (size g) all_zero rest →
+    ((k : ℕ) → k < size g → measured rest k ≡ not (is_output g k)) →
+    IsValidPattern (record {
+      names = g.names;
+      inputs = g.inputs;
+      outputs = g.outputs;
+      commands = graph_state g ++ rest;
+    })
+patterned g rest valid f gone =
+    let prepared_there = (prepared_all g valid).there in
+    let first : List Command = preparations g.inputs (size g - g.inputs) in
+    record {
+      names = valid.names;
+      qubits =
+          sym prepared_there
+          ∙ ap (λ (n : ℕ). g.inputs + n) (sym (
+          ap prepared (append_assoc first (entanglings g.edges) rest)
+          ∙ prepared-append first (entanglings g.edges ++ rest)
+          ∙ nothing (prepared first) (follows-prepared (size g) all_zero
+          (entanglings g.edges ++ rest)
+          (follows_edges (size g) g.edges rest valid.edges f))));
+      commands = follows_graph g rest valid f;
+      outputs = record {
+        below = valid.outputs.below;
+        once = λ q l.
+            let out = member_once g.outputs q (is_none (base_angle g q)) (valid.outputs.once q l) in
+            valid.outputs.once q l
+            ∙ ap (λ (b : Bool). cond b 1 0)
+            (sym out ∙ sym (not_not (is_output g q))
+            ∙ ap not (sym (measured-graph g rest q ∙ gone q l)));
+      };
+    }
+  where
+    nothing : (m : ℕ) {k : ℕ} → k ≡ 0 → m + k ≡ m
+    nothing m e = omega arith
+
+pub flow_patterns_valid : (g : OpenGraph) (sets : ℕ → Bits) (layer : ℕ → ℕ) → IsOpenGraph g →
+    IsFlow g sets layer → IsValidPattern (flow_pattern g sets layer)
+unfolding flow_pattern
+flow_patterns_valid g sets layer valid flow =
+    let order : List ℕ = measuring_order g layer (depth_of g layer) in
+    let in_order = measured_in_order g layer (depth_of g layer) in
+    patterned g (flat_map (λ i. corrected_measurement g (sets i) i) order) valid
+    (follows_flow g sets layer flow all_zero order in_order (nothing_before layer order))
+    (λ k l.
+    measured-flow g sets order k
+    ∙ member_once order k (not (is_output g k)) (order_once g sets layer flow k l))
+  where
+    nothing_before : (layer : ℕ → ℕ) (js : List ℕ) → AllByRecursion (IsBefore layer all_zero) js
+    nothing_before layer [] = tt
+    nothing_before layer (j ∷ js) =
+        (λ k d. absurd (true≢false (sym d)), nothing_before layer js)
+
+pub zero_patterns_valid : (g : OpenGraph) → IsOpenGraph g → IsValidPattern (zero_pattern g)
+unfolding zero_pattern
+zero_patterns_valid g valid =
+    let p : Bits = λ v. not (is_output g v) in
+    let rising : List ℕ = numbers_where p (size g) in
+    patterned g (map (bare_measurement g) rising) valid
+    (follows_rising g all_zero p (size g) 0 (size g) (λ k d. absurd (true≢false (sym d)))
+    (omega arith))
+    (λ k l.
+    measured-bare g rising k
+    ∙ member_once rising k (p k)
+    (count-where p (size g) k ∙ ap (λ (b : Bool). cond (b && p k) 1 0) (lt-ltb k (size g) l)))

@@ -1,0 +1,5 @@
+pub mod Members
+pub mod Listed
+pub mod RuleLaws
+pub mod Built
+

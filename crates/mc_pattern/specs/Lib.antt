@@ -1,0 +1,5 @@
+pub mod Commands
+pub mod Rules
+pub mod Patterns
+pub mod Laws
+pub mod Changes

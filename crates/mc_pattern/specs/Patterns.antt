@@ -1,0 +1,40 @@
+-- What every pattern keeps, and every builder.
+use Rattle.std.specs.Prelude.{◌≡◌, ℕ, ◌+◌, ◌≤◌, ◌<◌, Bool, List, [], length, count_by, None}
+use Rattle.mc_model.specs.Names.{Name, AreNames, place_of}
+use Rattle.mc_model.specs.Numbers.{numbers_from}
+use Rattle.mc_model.specs.Pattern.{Command, Pattern}
+use Rattle.mc_model.specs.Valid.{IsValid, IsValidPattern, prepared, measured}
+use Rattle.mc_signal.specs.Outcomes.{bits_of}
+
+-- valid, and of at most 262,144 commands
+pub record IsPattern (p : Pattern) : Type 0 where
+  pub valid : IsValidPattern p
+  pub few : length p.commands ≤ 262144
+
+-- a pattern so far: without outputs
+abbrev pub begun : List Name → ℕ → List Command → Pattern
+begun names inputs commands =
+    record { names = names; inputs = inputs; outputs = []; commands = commands }
+
+-- the same of a pattern so far, apart from its outputs
+pub record IsBegun (p : Pattern) : Type 0 where
+  pub names : AreNames p.names
+  pub qubits : length p.names ≡ p.inputs + prepared p.commands
+  pub commands : IsValid p.inputs p.commands
+  pub few : length p.commands ≤ 262144
+
+-- a builder has a mark for each number below 256, and it stands at the measured qubits
+pub record IsBuilt (p : Pattern) (marks : List Bool) : Type 0 where
+  pub begun : IsBegun p
+  pub long : length marks ≡ 256
+  pub same : bits_of marks ≡ measured p.commands
+
+-- a qubit with this name may be prepared: the name is not held, and there is room for the qubit and its command
+pub record IsFree (p : Pattern) (name : Name) : Type 0 where
+  pub new : place_of p.names name ≡ None
+  pub few : length p.names < 256
+  pub room : length p.commands < 262144
+
+-- how many qubits are measured
+abbrev pub measured_count : Pattern → ℕ
+measured_count p = count_by (measured p.commands) (numbers_from 0 (length p.names))

@@ -1,0 +1,48 @@
+-- The canonical text, part by part.
+use Rattle.std.proofs.Common.{◌≡◌, ℕ, ◌<◌, zero, suc, List, [], ◌∷◌, ◌++◌, length, map, take, get_or, codes, refl, sym, subst, ◌∙◌, append_assoc, arith}
+use Rattle.std.proofs.lemmas.Grind.{flat_map-append}
+use Rattle.mc_write.specs.Text.{line_text, text_of}
+use Rattle.mc_write.specs.Named.{name_at}
+use Rattle.mc_model.specs.Pattern.{Command, Pattern}
+use Rattle.mc_pattern_text.specs.Canonical.{command_line, pattern_text}
+use Rattle.mc_pattern_text.specs.Written.{IsNamed, AreNamed}
+
+-- one of a list of commands
+pub AreNamed-at : {A : Type 0} (f : A → Command) (n : ℕ) (xs : List A) (i : ℕ) (x : A) →
+    x ≡ get_or xs i x → i < length xs → AreNamed n (map f xs) → IsNamed n (f x)
+AreNamed-at f n [] i x e lt h = absurd (omega arith)
+AreNamed-at f n (y ∷ xs) zero x e lt h = subst (λ (z : _). IsNamed n (f z)) (sym e) h.0
+AreNamed-at f n (y ∷ xs) (suc i) x e lt h = AreNamed-at f n xs i x e (omega arith) h.1
+
+regroup : (a b c d e : List ℕ) → (((a ++ b) ++ c) ++ d) ++ e ≡ a ++ (b ++ (c ++ (d ++ e)))
+regroup a b c d e = simp append_assoc
+
+parts : (p : Pattern) →
+    ((((line_text (codes "pattern" ∷ codes "1" ∷ []) ++ line_text (codes "in" ∷ take p.inputs p.names))
+    ++ text_of (map (command_line p.names) p.commands))
+    ++ line_text (codes "out" ∷ map (name_at p.names) p.outputs))
+    ++ line_text (codes "end" ∷ []))
+    ≡ pattern_text p
+parts p =
+    let commands = map (command_line p.names) p.commands in
+    let out = codes "out" ∷ map (name_at p.names) p.outputs in
+    let end = (codes "end" ∷ []) ∷ [] in
+    let last = flat_map-append line_text commands (out ∷ end) in
+    regroup (line_text (codes "pattern" ∷ codes "1" ∷ []))
+      (line_text (codes "in" ∷ take p.inputs p.names)) (text_of commands) (line_text out)
+      (line_text (codes "end" ∷ []))
+    ∙ rw last refl
+
+-- what is written, part by part
+pub record IsPrinted (p : Pattern) (headed with_inputs with_commands with_outputs whole : List ℕ) : Type 0 where
+  pub header : headed ≡ line_text (codes "pattern" ∷ codes "1" ∷ [])
+  pub inputs : with_inputs ≡ headed ++ line_text (codes "in" ∷ take p.inputs p.names)
+  pub commands : with_commands ≡ with_inputs ++ text_of (map (command_line p.names) p.commands)
+  pub outputs : with_outputs
+      ≡ with_commands ++ line_text (codes "out" ∷ map (name_at p.names) p.outputs)
+  pub end : whole ≡ with_outputs ++ line_text (codes "end" ∷ [])
+
+pub printed : (p : Pattern) (headed with_inputs with_commands with_outputs whole : List ℕ) →
+    IsPrinted p headed with_inputs with_commands with_outputs whole → whole ≡ pattern_text p
+printed p headed with_inputs with_commands with_outputs whole h =
+    rw (h.end, h.outputs, h.commands, h.inputs, h.header) (parts p)

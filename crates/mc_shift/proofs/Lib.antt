@@ -1,0 +1,5 @@
+pub mod Changed
+pub mod Shifting
+pub mod NewOutcomes
+pub mod ShiftedForm
+pub mod ShiftedValid

@@ -1,0 +1,23 @@
+//! What is proved of shifted forms.
+
+ghost use Rattle.mc_shift.specs.Laws.{HasOneShiftedForm, NewOutcomesAreABijection, ShiftKeepsMaps, ShiftedFormsAreValid};
+
+/// At the changed outcomes the shifted form of a valid pattern has the branch map of the pattern.
+pub fn shift_keeps_maps()
+    ensures { ShiftKeepsMaps }
+{}
+
+/// A valid pattern has one shifted form.
+pub fn has_one_shifted_form()
+    ensures { HasOneShiftedForm }
+{}
+
+/// The change of outcomes of a valid pattern reaches all outcomes, each from one.
+pub fn new_outcomes_are_a_bijection()
+    ensures { NewOutcomesAreABijection }
+{}
+
+/// The shifted form of a valid pattern is valid, has no second signals, and keeps the scale.
+pub fn shifted_forms_are_valid()
+    ensures { ShiftedFormsAreValid }
+{}

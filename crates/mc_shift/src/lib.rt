@@ -1,0 +1,8 @@
+//! Signal shifting (Danos, Kashefi and Panangaden 2007): patterns without second signals, at other outcomes.
+#![tactic(auto)]
+
+mod laws;
+
+pub use laws::{
+    has_one_shifted_form, new_outcomes_are_a_bijection, shift_keeps_maps, shifted_forms_are_valid,
+};
