@@ -39,14 +39,14 @@ out_head None e = absurd (cc e)
 out_head (Some Out) e = refl
 out_head (Some _) e = absurd (cc e)
 
-closed_head : (h : Option Head) → is_closed h ≡ true → (h ≡ Some Out) ⊎ (h ≡ Some End)
+pub closed_head : (h : Option Head) → is_closed h ≡ true → (h ≡ Some Out) ⊎ (h ≡ Some End)
 closed_head None e = absurd (cc e)
 closed_head (Some Out) e = inl refl
 closed_head (Some End) e = inr refl
 closed_head (Some _) e = absurd (cc e)
 
 -- behind the outputs stands `end`, and nothing behind that
-behind_closed : (last h : Option Head) → is_closed last ≡ true → may_follow last h ≡ true
+pub behind_closed : (last h : Option Head) → is_closed last ≡ true → may_follow last h ≡ true
     → (last ≡ Some Out) × (h ≡ Some End)
 behind_closed last h closed follows =
     elim (closed_head last closed) [
@@ -122,22 +122,30 @@ spelled_many : (h a b : List ℕ) (words : Words) (word : List ℕ)
 spelled_many h a b [] word = refl
 spelled_many h a b (c ∷ words) word = refl
 
-pub gate_more : (half : ℕ) (names : List (List ℕ)) (before : Lines) (here : Words) (wire : ℕ)
+gate_at : (half : ℕ) (names : List (List ℕ)) (before : Lines) (here : Words) (wire : ℕ)
     (word : List ℕ)
     → ((a : List ℕ) → operand_at 0 is_gate here ≡ Some a → number_in names a ≡ wire)
     → next_gate half names (point_of before here) wire word
     ≡ option_map (gate_by half names) (spelled_gate (here ++ word ∷ []))
-gate_more half names before [] wire word same = refl
-gate_more half names before (h ∷ []) wire word same = refl
-gate_more half names before (h ∷ a ∷ []) wire word same =
+gate_at half names before [] wire word same = refl
+gate_at half names before (h ∷ []) wire word same = refl
+gate_at half names before (h ∷ a ∷ []) wire word same =
     same_gate half names (head_of h) a word wire (λ gate. same a (rw gate refl))
-gate_more half names before (h ∷ a ∷ b ∷ words) wire word same =
+gate_at half names before (h ∷ a ∷ b ∷ words) wire word same =
     let count = count_at before (h ∷ a ∷ b ∷ words) in
     let ne = ne_eqb (point_of before (h ∷ a ∷ b ∷ words)).count 2 (λ two. omega arith) in
     rw (ne, spelled_many h a b words word) refl
 
+pub gate_more : (half : ℕ) (names : List (List ℕ)) (before : Lines) (here : Words) (p : Point)
+    (wire : ℕ) (word : List ℕ) → p ≡ point_of before here
+    → ((a : List ℕ) → operand_at 0 is_gate here ≡ Some a → number_in names a ≡ wire)
+    → next_gate half names p wire word
+    ≡ option_map (gate_by half names) (spelled_gate (here ++ word ∷ []))
+gate_more half names before here p wire word e same =
+    rw e (gate_at half names before here wire word same)
+
 -- the outputs with one more word
-outputs_more : (names listed : List (List ℕ)) (outputs outputs' : List ℕ) (word : List ℕ)
+pub outputs_more : (names listed : List (List ℕ)) (outputs outputs' : List ℕ) (word : List ℕ)
     (t s : Bool) → AreNumbers names listed outputs
     → Lists names outputs outputs' (if t then [] else (if s then word ∷ [] else []))
     → AreNumbers names (listed ++ (if t then [] else (if s then word ∷ [] else []))) outputs'
@@ -157,7 +165,7 @@ unlisted_by names list word true true true e f l none =
     let none' = rw (e, f, l) at none in absurd (cc none')
 unlisted_by names list word true true false e f l none = refl
 
-distinct_more : (names listed : List (List ℕ)) (first : Option (List ℕ)) (gates : ℕ) (p : Point)
+pub distinct_more : (names listed : List (List ℕ)) (first : Option (List ℕ)) (gates : ℕ) (p : Point)
     (word : List ℕ) (t s : Bool) → (p.count == 0) ≡ t → is_output p.head ≡ s
     → judge_by names listed first gates p.last (role_of p) word ≡ None
     → IsDistinct name_eq listed → IsDistinct name_eq (listed ++ added is_output p word)

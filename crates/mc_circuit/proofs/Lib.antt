@@ -3,3 +3,5 @@ pub mod Printing
 pub mod Operands
 pub mod Moving
 pub mod Keeping
+pub mod KeepingWord
+pub mod KeepingLine
