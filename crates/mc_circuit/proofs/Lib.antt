@@ -5,3 +5,4 @@ pub mod Moving
 pub mod Keeping
 pub mod KeepingWord
 pub mod KeepingLine
+pub mod Spelling

@@ -5,3 +5,4 @@ pub mod Heading
 pub mod Numbers
 pub mod Kept
 pub mod Listed
+pub mod Sections
