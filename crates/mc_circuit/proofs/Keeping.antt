@@ -97,7 +97,7 @@ stands_at k before here p h e = record {
 pub same_judge : {half : ℕ} (k : Reader half) (before : Lines) (here : Words) (p : Point)
     (word : List ℕ) → IsKept k before here → p ≡ point_of before here
     → judge_by k.names (names_at is_output before here) (operand_at 0 is_gate here)
-      (length k.gates.items) p.last (role_of p) word
+    (length k.gates.items) p.last (role_of p) word
     ≡ circuit_rules.judge before here word
 same_judge k before here p word h e = rw (e, h.names, count_kept k before here h) refl
 
@@ -177,5 +177,5 @@ distinct_more names listed first gates p word false true e f clean apart =
     let head = out_head p.head f in
     let clean' : listed_name names listed word ≡ None = rw (e, head) at clean in
     let new = unlisted_by names listed word (is_name word) (is_held names word) (is_held listed word)
-        refl refl refl clean' in
+    refl refl refl clean' in
     rw (e, f) (IsDistinct-push nat_list_eq_equiv listed word apart new)

@@ -122,29 +122,31 @@ pub line_kept : {half : ℕ} (k k' : Reader half) (before : Lines) (here : Words
 line_kept {half} k k' before here p h e m =
     let clean = m.clean (names_at is_output before here) h.outputs in
     let same_gates = λ (more : List (List ℕ)). gates_more (gate_by half (k.names ++ more))
-        k.gates.items k.gate before here (h.gates more) (h.gate more) in
+    k.gates.items k.gate before here (h.gates more) (h.gate more) in
     let gates = map (plain_gate {h = half}) k.gates.items in
     let gate = map (plain_gate {h = half}) (option_to_list k.gate) in
-    let both = map-append (plain_gate {h = half}) k.gates.items (option_to_list k.gate) in
-    (clean, record {
-      names = m.names ∙ h.names ∙ sym (names_at-line is_defining before here);
-      inputs = m.inputs ∙ h.inputs ∙ ap length (sym (names_at-line is_input before here));
-      outputs = rw (m.names, m.outputs, names_at-line is_output before here) h.outputs;
-      distinct = rw (names_at-line is_output before here) h.distinct;
-      operand = λ a none. absurd (cc none);
-      gate = λ more. rw m.gate refl;
-      gates = λ more. rw (m.gates, m.names) (same_gates more);
-      gate_fits = rw m.gate (record { fit = tt; angles = tt });
-      fits = rw (m.gates, m.names, both) (record {
-        fit = GatesFit-append (length k.names) gates gate h.fits.fit h.gate_fits.fit;
-        angles = AnglesFit-append half gates gate h.fits.angles h.gate_fits.angles;
-      });
-      few = rw m.gates (few_more (gate_by half (k.names ++ [])) k.gates.items k.gate here
-          (spelled_gate here) refl (h.gate []) h.few h.room);
-      room = λ gate. absurd (cc gate);
-      order = refl;
-      complete = λ closed.
-          let closed' = rw (last_head-more before here) at closed in
-          rw (m.names, names_at-line is_output before here)
-          (complete_line k before here p h e clean closed');
-    })
+    let both = map-append (plain_gate {h = half}) k.gates.items (option_to_list k.gate) in (
+      clean,
+      record {
+        names = m.names ∙ h.names ∙ sym (names_at-line is_defining before here);
+        inputs = m.inputs ∙ h.inputs ∙ ap length (sym (names_at-line is_input before here));
+        outputs = rw (m.names, m.outputs, names_at-line is_output before here) h.outputs;
+        distinct = rw (names_at-line is_output before here) h.distinct;
+        operand = λ a none. absurd (cc none);
+        gate = λ more. rw m.gate refl;
+        gates = λ more. rw (m.gates, m.names) (same_gates more);
+        gate_fits = rw m.gate (record { fit = tt; angles = tt });
+        fits = rw (m.gates, m.names, both) (record {
+          fit = GatesFit-append (length k.names) gates gate h.fits.fit h.gate_fits.fit;
+          angles = AnglesFit-append half gates gate h.fits.angles h.gate_fits.angles;
+        });
+        few = rw m.gates (few_more (gate_by half (k.names ++ [])) k.gates.items k.gate here
+            (spelled_gate here) refl (h.gate []) h.few h.room);
+        room = λ gate. absurd (cc gate);
+        order = refl;
+        complete = λ closed.
+            let closed' = rw (last_head-more before here) at closed in
+            rw (m.names, names_at-line is_output before here)
+            (complete_line k before here p h e clean closed');
+      },
+    )

@@ -56,7 +56,7 @@ room_by last word gates false e f clean gate = grind (arith, nat_tests)
 order_more : {half : ℕ} (k : Reader half) (before : Lines) (here : Words) (p : Point) (word : List ℕ)
     → IsKept k before here → p ≡ point_of before here
     → judge_by k.names (names_at is_output before here) (operand_at 0 is_gate here)
-      (length k.gates.items) p.last (role_of p) word ≡ None
+    (length k.gates.items) p.last (role_of p) word ≡ None
     → opens (last_head before) (here ++ word ∷ []) ≡ true
 order_more k before [] p word h e clean =
     let clean' = rw e at clean in
@@ -67,12 +67,12 @@ order_more k before (w ∷ words) p word h e clean = h.order
 room_more : {half : ℕ} (k : Reader half) (before : Lines) (here : Words) (p : Point) (word : List ℕ)
     → IsKept k before here → p ≡ point_of before here
     → judge_by k.names (names_at is_output before here) (operand_at 0 is_gate here)
-      (length k.gates.items) p.last (role_of p) word ≡ None
+    (length k.gates.items) p.last (role_of p) word ≡ None
     → is_gate (head_in (here ++ word ∷ [])) ≡ true → length k.gates.items < 32768
 room_more k before [] p word h e clean gate =
     let clean' = rw e at clean in
     let follows = follows_by (last_head before) word (length k.gates.items)
-        (may_follow (last_head before) (head_of word)) refl clean' in
+    (may_follow (last_head before) (head_of word)) refl clean' in
     room_by (last_head before) word (length k.gates.items) (nat_le 32768 (length k.gates.items))
     follows refl clean' gate
 room_more k before (w ∷ words) p word h e clean gate = h.room gate
@@ -134,7 +134,7 @@ operand_more k k' before here p word false s h e m one gate a is =
 pub word_kept : {half : ℕ} (k k' : Reader half) (before : Lines) (here : Words) (p : Point)
     (word : List ℕ) → IsKept k before here → p ≡ point_of before here → Moves k k' p word
     → (judge_by k.names (names_at is_output before here) (operand_at 0 is_gate here)
-      (length k.gates.items) p.last (role_of p) word ≡ None)
+    (length k.gates.items) p.last (role_of p) word ≡ None)
     × IsKept k' before (here ++ word ∷ [])
 word_kept {half} k k' before here p word h e m =
     let listed = names_at is_output before here in
@@ -145,42 +145,44 @@ word_kept {half} k k' before here p word h e m =
     let all_listed = names_at-word is_output before here p word e in
     let longer : length k.names ≤ length k'.names = rw (m.names, length-append) (omega arith) in
     let next : next_operand 0 is_gate p (operand_at 0 is_gate here) word
-        ≡ operand_at 0 is_gate (here ++ word ∷ []) =
-        rw e (operand_at-word 0 is_gate before here word (omega arith)) in
+    ≡ operand_at 0 is_gate (here ++ word ∷ []) =
+    rw e (operand_at-word 0 is_gate before here word (omega arith)) in
     let numbers : AreNumbers k'.names listed k.outputs.items =
-        rw m.names (numbers-more k.names more_names listed k.outputs.items h.outputs) in
+    rw m.names (numbers-more k.names more_names listed k.outputs.items h.outputs) in
     let wire : (more : List (List ℕ)) (a : List ℕ) → operand_at 0 is_gate here ≡ Some a
-        → number_in (k'.names ++ more) a ≡ k.operand = λ more a is.
-        let place = place-more k.names more_names a k.operand (h.operand a is) in
-        rw m.names (number_in-more (k.names ++ more_names) more a k.operand place) in
-    (clean, record {
-      names = m.names ∙ rw h.names (sym all_names);
-      inputs =
-          m.inputs
-          ∙ rw (h.inputs, names_at-word is_input before here p word e)
+    → number_in (k'.names ++ more) a ≡ k.operand = λ more a is.
+    let place = place-more k.names more_names a k.operand (h.operand a is) in
+    rw m.names (number_in-more (k.names ++ more_names) more a k.operand place) in (
+      clean,
+      record {
+        names = m.names ∙ rw h.names (sym all_names);
+        inputs =
+            m.inputs
+            ∙ rw (h.inputs, names_at-word is_input before here p word e)
             (sym (length-append (names_at is_input before here) (added is_input p word)));
-      outputs = rw all_listed
-          (outputs_more k'.names listed k.outputs.items k'.outputs.items word (p.count == 0)
-          (is_output p.head) numbers m.outputs);
-      distinct = rw all_listed
-          (distinct_more k.names listed (operand_at 0 is_gate here) (length k.gates.items) p word
-          (p.count == 0) (is_output p.head) refl refl clean h.distinct);
-      operand = λ a is.
-          operand_more k k' before here p word (p.count == 1) (is_gate p.head) h e m refl refl a
-          (next ∙ is);
-      gate = λ more.
-          m.gate more
-          ∙ gate_more half (k'.names ++ more) before here p k.operand word e (wire more);
-      gates = λ more.
-          rw (m.gates, m.names, append_assoc k.names more_names more)
-          (h.gates (more_names ++ more));
-      gate_fits = m.gate_fits listed (operand_at 0 is_gate here) stands;
-      fits = record {
-        fit = rw m.gates (GatesFit-more (length k.names) (length k'.names) _ longer h.fits.fit);
-        angles = rw m.gates h.fits.angles;
-      };
-      few = rw m.gates h.few;
-      room = λ gate. rw m.gates (room_more k before here p word h e clean gate);
-      order = order_more k before here p word h e clean;
-      complete = λ closed. complete_more k k' before here p word h e m closed;
-    })
+        outputs = rw all_listed
+            (outputs_more k'.names listed k.outputs.items k'.outputs.items word (p.count == 0)
+            (is_output p.head) numbers m.outputs);
+        distinct = rw all_listed
+            (distinct_more k.names listed (operand_at 0 is_gate here) (length k.gates.items) p word
+            (p.count == 0) (is_output p.head) refl refl clean h.distinct);
+        operand = λ a is.
+            operand_more k k' before here p word (p.count == 1) (is_gate p.head) h e m refl refl a
+            (next ∙ is);
+        gate = λ more.
+            m.gate more
+            ∙ gate_more half (k'.names ++ more) before here p k.operand word e (wire more);
+        gates = λ more.
+            rw (m.gates, m.names, append_assoc k.names more_names more)
+            (h.gates (more_names ++ more));
+        gate_fits = m.gate_fits listed (operand_at 0 is_gate here) stands;
+        fits = record {
+          fit = rw m.gates (GatesFit-more (length k.names) (length k'.names) _ longer h.fits.fit);
+          angles = rw m.gates h.fits.angles;
+        };
+        few = rw m.gates h.few;
+        room = λ gate. rw m.gates (room_more k before here p word h e clean gate);
+        order = order_more k before here p word h e clean;
+        complete = λ closed. complete_more k k' before here p word h e m closed;
+      },
+    )

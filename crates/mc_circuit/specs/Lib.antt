@@ -5,3 +5,4 @@ pub mod Roles
 pub mod Value
 pub mod Judge
 pub mod Kept
+pub mod Samples

@@ -46,8 +46,8 @@ fn builds_and_prints(rt: HostRuntime) -> Result<(), Fail> {
     Ok(())
 }
 
-fn read(alloc: Global, text: &str) -> Result<Circuit<4>, TextEnd>
-{
+fn read(rt: &impl Abort, alloc: Global, text: &str) -> Result<Circuit<4>, TextEnd> {
+    assert!(rt; text.len() < 100);
     let mut words = Words::new(text.as_bytes());
     words.next_line();
     read_circuit(alloc, &mut words)
@@ -56,7 +56,7 @@ fn read(alloc: Global, text: &str) -> Result<Circuit<4>, TextEnd>
 #[test]
 fn reads_and_prints(rt: HostRuntime) -> Result<(), Fail> {
     let text = "circuit 1 \r\n\tin a# one input\nplus b\n\nj a -0001\ncz  b a\nout b a\nend";
-    let circuit = read(rt.alloc(), text).ok().expect(&rt, "a circuit");
+    let circuit = read(&rt, rt.alloc(), text).ok().expect(&rt, "a circuit");
     let printed = print_circuit(rt.alloc(), &circuit)?;
     let want = "circuit 1\nin a\nplus b\nj a 7\ncz b a\nout b a\nend\n";
     assert_eq!(rt; printed.as_slice(), want.as_bytes());
@@ -66,7 +66,7 @@ fn reads_and_prints(rt: HostRuntime) -> Result<(), Fail> {
         ("circuit 1\nin a b\nout a a\nend", 18, 3, 7),
         ("circuit 1\nin a b\nout a\nend", 19, 3, 6),
     ] {
-        let end = read(rt.alloc(), text).err().expect(&rt, text);
+        let end = read(&rt, rt.alloc(), text).err().expect(&rt, text);
         assert_eq!(rt; end, TextEnd::Refused { code, line, column });
     }
     Ok(())
