@@ -1,2 +1,8 @@
 pub mod Building
 pub mod Printing
+pub mod Operands
+pub mod Moving
+pub mod Keeping
+pub mod KeepingWord
+pub mod KeepingLine
+pub mod Spelling

@@ -1,3 +1,8 @@
 pub mod Gates
 pub mod Circuits
 pub mod Canonical
+pub mod Roles
+pub mod Value
+pub mod Judge
+pub mod Kept
+pub mod Samples

@@ -5,6 +5,10 @@ mod builder;
 mod circuit;
 mod gate;
 mod print;
+mod read;
+mod reader;
+mod section;
+mod steps;
 #[cfg(test)]
 mod tests;
 
@@ -14,3 +18,4 @@ pub use gate::Gate;
 pub use mc_angle::Angle;
 pub use mc_names::{Name, Names};
 pub use print::print_circuit;
+pub use read::read_circuit;

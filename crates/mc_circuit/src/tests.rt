@@ -1,4 +1,6 @@
 use super::*;
+use mc_lex::{TextEnd, Words};
+use std::alloc::Global;
 use std::process::Abort;
 use std::test::Fail;
 
@@ -41,5 +43,31 @@ fn builds_and_prints(rt: HostRuntime) -> Result<(), Fail> {
     let text = print_circuit(rt.alloc(), &circuit)?;
     let want = "circuit 1\nin a\nplus b\nj b 7\ncz b a\nout b a\nend\n";
     assert_eq!(rt; text.as_slice(), want.as_bytes());
+    Ok(())
+}
+
+fn read(rt: &impl Abort, alloc: Global, text: &str) -> Result<Circuit<4>, TextEnd> {
+    assert!(rt; text.len() < 100);
+    let mut words = Words::new(text.as_bytes());
+    words.next_line();
+    read_circuit(alloc, &mut words)
+}
+
+#[test]
+fn reads_and_prints(rt: HostRuntime) -> Result<(), Fail> {
+    let text = "circuit 1 \r\n\tin a# one input\nplus b\n\nj a -0001\ncz  b a\nout b a\nend";
+    let circuit = read(&rt, rt.alloc(), text).ok().expect(&rt, "a circuit");
+    let printed = print_circuit(rt.alloc(), &circuit)?;
+    let want = "circuit 1\nin a\nplus b\nj a 7\ncz b a\nout b a\nend\n";
+    assert_eq!(rt; printed.as_slice(), want.as_bytes());
+
+    for (text, code, line, column) in [
+        ("circuit 1\nin a\nj b 0\nout a\nend\n", 13, 3, 3),
+        ("circuit 1\nin a b\nout a a\nend", 18, 3, 7),
+        ("circuit 1\nin a b\nout a\nend", 19, 3, 6),
+    ] {
+        let end = read(&rt, rt.alloc(), text).err().expect(&rt, text);
+        assert_eq!(rt; end, TextEnd::Refused { code, line, column });
+    }
     Ok(())
 }

@@ -4,3 +4,5 @@ pub mod Done
 pub mod Heading
 pub mod Numbers
 pub mod Kept
+pub mod Listed
+pub mod Sections

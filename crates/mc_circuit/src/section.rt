@@ -1,0 +1,51 @@
+//! The section of a circuit.
+
+ghost use Rattle.std.specs.Prelude.{[], IsTrue};
+ghost use Rattle.mc_model.specs.Steps.{is_permitted};
+ghost use Rattle.mc_circuit.specs.Kept.{IsKept};
+
+use crate::reader::Reader;
+use crate::steps::{end_gate, take};
+use mc_names::Names;
+use mc_text::{Point, Section, Stop};
+use std::alloc::Global;
+
+impl<const H: usize> Reader<H> {
+    /// Before the first line.
+    pub(crate) fn new(alloc: Global) -> Reader<H>
+        requires { IsTrue (is_permitted H) }
+        ensures { IsKept result [] [] }
+    {
+        Reader {
+            names: Names::new(alloc),
+            inputs: 0,
+            gates: Vec::new(alloc),
+            outputs: Vec::new(alloc),
+            operand: 0,
+            gate: None,
+        }
+    }
+}
+
+impl<const H: usize> Section for Reader<H> {
+    ghost use Rattle.mc_circuit.specs.Judge.{circuit_rules};
+    ghost use Rattle.mc_circuit.specs.Kept.{IsKept};
+
+    ghost rules = { λ _. circuit_rules };
+
+    ghost means = { IsKept };
+
+    fn word(&mut self, point: Point, word: &[u8]) -> Result<(), Stop> {
+        match take(self, point, word) {
+            Ok(()) => Ok(()),
+            Err(stop) => Err(stop),
+        }
+    }
+
+    fn end_line(&mut self, point: Point) -> Result<(), Stop> {
+        match end_gate(self, point) {
+            Ok(()) => Ok(()),
+            Err(stop) => Err(stop),
+        }
+    }
+}
