@@ -46,24 +46,18 @@ pub trait Ring: Copy {
 
     /// The sum; `None` exactly where it is out of the range.
     fn add(&self, other: &Self) -> Option<Self>
-        ensures {
-            let exact = sum_of (seen self.now) (seen other.now) in
-            MatchOption result (¬ InRange exact) (λ r. (seen r ≡ exact) × InRange exact)
-        };
+        ensures { let exact = sum_of (seen self.now) (seen other.now) in
+            MatchOption result (¬ InRange exact) (λ r. (seen r ≡ exact) × InRange exact) };
 
     /// The negative; `None` exactly where it is out of the range.
     fn neg(&self) -> Option<Self>
-        ensures {
-            let exact = negative_of (seen self.now) in
-            MatchOption result (¬ InRange exact) (λ r. (seen r ≡ exact) × InRange exact)
-        };
+        ensures { let exact = negative_of (seen self.now) in
+            MatchOption result (¬ InRange exact) (λ r. (seen r ≡ exact) × InRange exact) };
 
     /// The product; `None` exactly where it is out of the range.
     fn mul(&self, other: &Self) -> Option<Self>
-        ensures {
-            let exact = product_of (seen self.now) (seen other.now) in
-            MatchOption result (¬ InRange exact) (λ r. (seen r ≡ exact) × InRange exact)
-        };
+        ensures { let exact = product_of (seen self.now) (seen other.now) in
+            MatchOption result (¬ InRange exact) (λ r. (seen r ≡ exact) × InRange exact) };
 
     /// Whether the two values are the same element.
     fn same(&self, other: &Self) -> bool
@@ -89,15 +83,11 @@ pub trait PhaseRing: Ring {
         ensures { Self.seen result ≡ turned_by k (Self.seen self.now) };
 
     /// Turns are products with powers of `w`, and half a turn is the negative.
-    ghost turn_laws: {
-        Self.IsPermitted →
-        TurnLaws Self.IsElement Self.unit Self.product_of Self.negative_of HALF turned_by
-    };
+    ghost turn_laws: { Self.IsPermitted →
+        TurnLaws Self.IsElement Self.unit Self.product_of Self.negative_of HALF turned_by };
 
     /// Heights grow by sums alone, and what has a height of at most `2 ^ 60` is in the range.
-    ghost height_laws: {
-        Self.IsPermitted →
+    ghost height_laws: { Self.IsPermitted →
         HeightLaws Self.IsElement Self.InRange Self.nought Self.unit Self.sum_of Self.negative_of
-            turned_by height_of
-    };
+        turned_by height_of };
 }
