@@ -65,6 +65,7 @@ impl<const H: usize> Amp<H> {
     {
         self.halves
     }
+
     /// Appends the coordinates in decimal, a slash, and the power of the root of two that they are over.
     pub fn print(&self, out: &mut Vec<u8>) -> Result<(), Memory>
         ensures { OnOk result
