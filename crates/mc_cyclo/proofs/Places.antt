@@ -1,9 +1,9 @@
 -- How the operations on coordinates read by place.
-use Rattle.std.proofs.Common.{◌≡◌, ℕ, zero, suc, ◌+◌, ◌-◌, ◌*◌, ◌<◌, ◌≤◌, ◌^◌, max, ℤ, pos, ◌+ℤ◌, refl, List, [], ◌∷◌, ◌++◌, length, arith, sym, ap, ◌∙◌, get_or, drop, drop-cons, take, add-one}
+use Rattle.std.proofs.Common.{◌≡◌, ℕ, zero, suc, ◌+◌, ◌*◌, ◌<◌, ◌≤◌, ◌^◌, max, ℤ, pos, ◌+ℤ◌, refl, List, [], ◌∷◌, length, arith, sym, ap, ◌∙◌, get_or, drop, drop-cons, add-one}
 use Rattle.std.specs.Int.RustNames.{unsigned_abs}
 use lib.IntN.{◌*ℤ◌, neg_ℤ}
 use Rattle.std.proofs.lemmas.List.{ext_get_or}
-use Rattle.std.proofs.lemmas.Int.{unsigned_abs-mul, ints}
+use Rattle.std.proofs.lemmas.Int.{unsigned_abs-mul}
 use Rattle.mc_model.specs.Ring.{plus, minus, scaled, zeros, rotated, times, length-plus, length-minus, length-scaled}
 use Rattle.mc_cyclo.specs.Height.{height, abs_add, height-plus, height-rotated}
 
@@ -60,8 +60,8 @@ scaled_sum_by_places x a b new e f g =
     sum_by_places (scaled x b) a new (length-scaled x b ∙ sym e)
     (f ∙ e ∙ sym (length-scaled x b))
     (λ j h.
-      let l : j < length b = omega (arith, length-scaled x b) in
-      g j (omega arith) ∙ ap (λ t. t +ℤ at a j) (sym (at-scaled x b j l)))
+    let l : j < length b = omega (arith, length-scaled x b) in
+    g j (omega arith) ∙ ap (λ t. t +ℤ at a j) (sym (at-scaled x b j l)))
 
 pub below_both : (a n b m : ℕ) → a ≤ n → b ≤ m → a * b ≤ n * m
 below_both a n b m h k = grind arith
@@ -70,8 +70,12 @@ below_both a n b m h k = grind arith
 pub small_sum : (x y z : ℤ) → unsigned_abs x ≤ 2 ^ 60 → unsigned_abs y ≤ 2 ^ 60 →
     unsigned_abs z ≤ 2 ^ 125 → unsigned_abs ((x *ℤ y) +ℤ z) < 2 ^ 127
 small_sum x y z h k l =
-    omega (arith, abs_add (x *ℤ y) z, unsigned_abs-mul x y,
-    below_both (unsigned_abs x) (2 ^ 60) (unsigned_abs y) (2 ^ 60) h k)
+    omega (
+      arith,
+      abs_add (x *ℤ y) z,
+      unsigned_abs-mul x y,
+      below_both (unsigned_abs x) (2 ^ 60) (unsigned_abs y) (2 ^ 60) h k,
+    )
 
 pub height-scaled : (x : ℤ) (a : List ℤ) (n : ℕ) → unsigned_abs x ≤ n →
     height (scaled x a) ≤ n * height a
@@ -105,6 +109,10 @@ pub height_more : (a b wide : List ℤ) (i n : ℕ) → height a ≤ 2 ^ 60 → 
     height wide ≤ n * 2 ^ 120 →
     height (plus (scaled (at a i) b) (rotated wide)) ≤ (n + 1) * 2 ^ 120
 height_more a b wide i n h k l =
-    omega (arith, height-plus (scaled (at a i) b) (rotated wide), height-rotated wide,
-    height-scaled (at a i) b (2 ^ 60) (omega (arith, at-height a i)),
-    below_both (2 ^ 60) (2 ^ 60) (height b) (2 ^ 60) (omega arith) k)
+    omega (
+      arith,
+      height-plus (scaled (at a i) b) (rotated wide),
+      height-rotated wide,
+      height-scaled (at a i) b (2 ^ 60) (omega (arith, at-height a i)),
+      below_both (2 ^ 60) (2 ^ 60) (height b) (2 ^ 60) (omega arith) k,
+    )

@@ -1,12 +1,12 @@
 -- Turns by parts of the list: what goes round comes back in front, as its negative.
-use Rattle.std.proofs.Common.{◌≡◌, ℕ, zero, suc, ◌+◌, ◌-◌, ◌*◌, ◌/◌, ◌%◌, ◌<◌, ◌≤◌, max, ℤ, refl, List, [], ◌∷◌, ◌++◌, length, arith, sym, ap, ap₂, ◌∙◌, drop, take, slice_set, neg_ℤ}
+use Rattle.std.proofs.Common.{◌≡◌, ℕ, zero, suc, ◌+◌, ◌-◌, ◌*◌, ◌/◌, ◌%◌, ◌<◌, ◌≤◌, ℤ, List, [], ◌∷◌, ◌++◌, length, arith, sym, ap, ap₂, ◌∙◌, drop, take, slice_set, neg_ℤ}
 use Rattle.std.proofs.lemmas.List.{take-append-drop, length-drop}
 use Rattle.std.proofs.Math.Seq.{take-append_seam, drop-append_seam}
 use Rattle.mc_model.specs.Ring.{minus, rotated, rotations}
 use Rattle.mc_model.proofs.RingLemmas.{rotations_back, rotations_add, rotations_half, length-rotations}
 use Rattle.mc_model.proofs.RootTwo.{minus_minus}
 use Rattle.mc_cyclo.proofs.Places.{at, drop-more, drop-whole}
-use Rattle.mc_cyclo.specs.Height.{height, IsInRange, height-rotations}
+use Rattle.mc_cyclo.specs.Height.{height, IsInRange}
 
 -- the part of `s` coordinates that goes round
 abbrev pub round : ℕ → List ℤ → List ℤ

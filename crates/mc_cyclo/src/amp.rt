@@ -20,14 +20,12 @@ pub struct Amp<const H: usize> {
 }
 
 impl<const H: usize> Amp<H> {
-    /// The value of `num` over the root of two to the power `halves`, with the least power of all elements that have
-    /// this value; 0 for the element 0.
+    /// The value of `num` over the root of two to the power `halves`, with its least denominator exponent (Giles and
+    /// Selinger 2013): no element over a lower power has this value. The exponent of 0 is 0.
     pub fn reduced(num: Cyclo<H>, halves: u32) -> Amp<H>
         ensures value { IsSameValue H result.num result.halves num.entry halves }
-        ensures least {
-            (a : List ℤ) (k : ℕ) → IsLong H a → IsSameValue H a k num.entry halves →
-            result.halves ≤ k
-        }
+        ensures least { (a : List ℤ) (k : ℕ) → IsLong H a → IsSameValue H a k num.entry halves →
+            result.halves ≤ k }
         ensures zero { num.entry ≡ zeros H → (result.num ≡ zeros H) × (result.halves ≡ 0) }
     {
         num.known();
@@ -61,19 +59,18 @@ impl<const H: usize> Amp<H> {
         self.num
     }
 
-    /// The power of the root of two that the element is over.
+    /// The denominator exponent: the power of the root of two that the element is over.
     pub fn halves(&self) -> u32
         ensures { result ≡ self.now.halves }
     {
         self.halves
     }
+
     /// Appends the coordinates in decimal, a slash, and the power of the root of two that they are over.
     pub fn print(&self, out: &mut Vec<u8>) -> Result<(), Memory>
-        ensures {
-            OnOk result
-                (out.new.items ≡
-                    out.old.items ++ amplitude_text self.now.num self.now.halves)
-        }
+        ensures { OnOk result
+            (out.new.items ≡
+            out.old.items ++ amplitude_text self.now.num self.now.halves) }
     {
         let num = self.num;
         write_coordinates(out, num.coordinates())?;

@@ -13,7 +13,8 @@ use crate::product::{multiply, narrow};
 use mc_ring::{PhaseRing, Ring};
 use std::marker::Model;
 
-/// A whole number of powers of `w`, where `w^H` is -1: `H` coordinates, each of absolute value at most `2^60`.
+/// An element of the amplitude ring, in which `w^H` is -1: the coordinates of `1`, `w`, `w^2` and so on, `H` in all, each of
+/// absolute value at most `2^60`.
 #[derive(Clone, Copy, Debug, PartialEq, Eq)]
 pub struct Cyclo<const H: usize> {
     coordinates: [i64; H],
@@ -47,10 +48,8 @@ impl<const H: usize> Cyclo<H> {
     /// The element, where its coordinates are in the range.
     fn in_range(coordinates: [i64; H]) -> Option<Cyclo<H>>
         requires { IsTrue (is_permitted H) }
-        ensures {
-            MatchOption result (¬ IsInRange coordinates.entry)
-                (λ x. (x ≡ coordinates.entry) × IsInRange coordinates.entry)
-        }
+        ensures { MatchOption result (¬ IsInRange coordinates.entry)
+            (λ x. (x ≡ coordinates.entry) × IsInRange coordinates.entry) }
     {
         if is_in_range(&coordinates) {
             Some(Cyclo { coordinates })
@@ -78,10 +77,8 @@ impl<const H: usize> Cyclo<H> {
 
     /// The element of which this one is the root of two times; `None` exactly where there is none.
     pub(crate) fn over_root(&self) -> Option<Cyclo<H>>
-        ensures {
-            MatchOption result ((a : List ℤ) → IsLong H a → self.now ≢ root_times H a)
-                (λ a. (self.now ≡ root_times H a) × IsLong H a)
-        }
+        ensures { MatchOption result ((a : List ℤ) → IsLong H a → self.now ≢ root_times H a)
+            (λ a. (self.now ≡ root_times H a) × IsLong H a) }
     {
         let mut twice = self.coordinates;
         let mut other = self.coordinates;

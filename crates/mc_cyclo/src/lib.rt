@@ -1,4 +1,4 @@
-//! Exact amplitudes: elements of the amplitude ring over powers of the root of two.
+//! Exact amplitudes: elements of the amplitude ring over powers of the root of two, phases between them, and their text.
 #![tactic(auto)]
 
 mod amp;

@@ -22,11 +22,9 @@ fn is_phase<const H: usize>(a: &[Cyclo<H>], b: &[Cyclo<H>], k: u32) -> bool
 /// there is none.
 pub fn phase_between<const H: usize>(a: &[Cyclo<H>], b: &[Cyclo<H>]) -> Option<u32>
     requires { length a.now ≡ length b.now }
-    ensures {
-        MatchOption result ((k : ℕ) → k < 2 * H → ¬ IsPhase a.now b.now k)
-            (λ k. (k < 2 * H) × IsPhase a.now b.now k ×
-                ((j : ℕ) → j < k → ¬ IsPhase a.now b.now j))
-    }
+    ensures { MatchOption result ((k : ℕ) → k < 2 * H → ¬ IsPhase a.now b.now k)
+        (λ k. (k < 2 * H) × IsPhase a.now b.now k ×
+        ((j : ℕ) → j < k → ¬ IsPhase a.now b.now j)) }
 {
     match b.first() {
         Some(entry) => entry.known(),

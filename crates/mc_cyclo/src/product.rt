@@ -68,7 +68,11 @@ pub fn multiply(a: &[i64], b: &[i64], wide: &mut [i128])
 fn narrow_one(x: i128) -> Option<i64>
     ensures { MatchOption result (2 ^ 60 < unsigned_abs x) (λ y. (y ≡ x) × (unsigned_abs x ≤ 2 ^ 60)) }
 {
-    if x.unsigned_abs() <= MOST as u128 { Some(x as i64) } else { None }
+    if x.unsigned_abs() <= MOST as u128 {
+        Some(x as i64)
+    } else {
+        None
+    }
 }
 
 /// Writes the coordinates, where each is in the range.

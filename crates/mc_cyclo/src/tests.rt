@@ -1,5 +1,4 @@
 use super::*;
-
 use mc_ring::{PhaseRing, Ring};
 
 /// The greatest coordinate.
@@ -63,9 +62,15 @@ fn ends_of_the_range(rt: HostRuntime) {
     assert_eq!(rt; of([0, -MOST, 0, MOST]).is_some(), true);
     assert_eq!(rt; of([0, 0, MOST + 1, 0]), None);
     assert_eq!(rt; of([0, 0, 0, i64::MIN]), None);
-    assert_eq!(rt; product([MOST / 2, 0, 0, 0], [2, 0, 0, 0]), of([MOST, 0, 0, 0]));
+    assert_eq!(rt;
+        product([MOST / 2, 0, 0, 0], [2, 0, 0, 0]),
+        of([MOST, 0, 0, 0])
+    );
     assert_eq!(rt; product([MOST, 0, 0, 0], [2, 0, 0, 0]), None);
-    assert_eq!(rt; product([MOST, MOST, MOST, MOST], [-MOST, MOST, MOST, MOST]), None);
+    assert_eq!(rt;
+        product([MOST, MOST, MOST, MOST], [-MOST, MOST, MOST, MOST]),
+        None
+    );
     let one: Cyclo<4> = Cyclo::one();
     for (c, want) in [(MOST - 1, Some(MOST)), (MOST, None)] {
         let sum = plus_turned(&of([c, 0, 0, 0]).unwrap_or(one), &one, 8);

@@ -25,11 +25,9 @@ fn add_coordinate(text: &mut Vec<u8>, coordinate: i64) -> Result<(), Memory>
 }
 
 fn add_coordinates(text: &mut Vec<u8>, coordinates: &[i64]) -> Result<(), Memory>
-    ensures {
-        OnOk result
-            (text.new.items ≡
-                text.old.items ++ words_behind (map signed_decimal coordinates.now))
-    }
+    ensures { OnOk result
+        (text.new.items ≡
+        text.old.items ++ words_behind (map signed_decimal coordinates.now)) }
 {
     'coordinates: for coordinate in coordinates {
         add_coordinate(text, *coordinate)?;
@@ -39,10 +37,8 @@ fn add_coordinates(text: &mut Vec<u8>, coordinates: &[i64]) -> Result<(), Memory
 
 /// Appends the coordinates in decimal, with a blank between.
 pub fn write_coordinates(text: &mut Vec<u8>, coordinates: &[i64]) -> Result<(), Memory>
-    ensures {
-        OnOk result
-            (text.new.items ≡ text.old.items ++ spaced (map signed_decimal coordinates.now))
-    }
+    ensures { OnOk result
+        (text.new.items ≡ text.old.items ++ spaced (map signed_decimal coordinates.now)) }
 {
     match coordinates {
         [] => Ok(()),

@@ -1,6 +1,11 @@
 -- The laws of a commutative ring whose elements are lists of whole numbers, and those of its turns
 -- and heights. `Is` holds of the elements.
-use Rattle.std.specs.Prelude.{◌≡◌, ℕ, ◌+◌, ◌^◌, ◌<◌, ◌≤◌, ℤ, List}
+use Rattle.std.specs.Prelude.{◌≡◌, ℕ, ◌+◌, ◌^◌, ◌<◌, ◌≤◌, ℤ, List, Option, MatchOption}
+
+-- the answer is the exact result, and there is none exactly where that is out of the range
+abbrev pub IsExact : {R : Type 0} → (R → List ℤ) → (List ℤ → Type 0) → List ℤ → Option R → Type 0
+IsExact seen InRange exact answer =
+    MatchOption answer (¬ InRange exact) (λ r. (seen r ≡ exact) × InRange exact)
 
 pub record RingLaws (Is : List ℤ → Type 0) (nought one : List ℤ)
     (sum product : List ℤ → List ℤ → List ℤ) (negative : List ℤ → List ℤ) : Type 0 where

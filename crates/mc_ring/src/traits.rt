@@ -1,7 +1,7 @@
 //! Rings, and rings with a root of -1.
 
-ghost use Rattle.std.specs.Prelude.{◌≡◌, ℕ, ℤ, ◌↔◌, List, IsTrue, MatchOption};
-ghost use Rattle.mc_ring.specs.Laws.{RingLaws, TurnLaws, HeightLaws};
+ghost use Rattle.std.specs.Prelude.{◌≡◌, ℕ, ℤ, ◌↔◌, List, IsTrue};
+ghost use Rattle.mc_ring.specs.Laws.{IsExact, RingLaws, TurnLaws, HeightLaws};
 
 /// A commutative ring. A value is seen as a list of whole numbers. The exact sum, negative and product are those of
 /// the lists, also where they leave the range of the type.
@@ -46,24 +46,15 @@ pub trait Ring: Copy {
 
     /// The sum; `None` exactly where it is out of the range.
     fn add(&self, other: &Self) -> Option<Self>
-        ensures {
-            let exact = sum_of (seen self.now) (seen other.now) in
-            MatchOption result (¬ InRange exact) (λ r. (seen r ≡ exact) × InRange exact)
-        };
+        ensures { IsExact seen InRange (sum_of (seen self.now) (seen other.now)) result };
 
     /// The negative; `None` exactly where it is out of the range.
     fn neg(&self) -> Option<Self>
-        ensures {
-            let exact = negative_of (seen self.now) in
-            MatchOption result (¬ InRange exact) (λ r. (seen r ≡ exact) × InRange exact)
-        };
+        ensures { IsExact seen InRange (negative_of (seen self.now)) result };
 
     /// The product; `None` exactly where it is out of the range.
     fn mul(&self, other: &Self) -> Option<Self>
-        ensures {
-            let exact = product_of (seen self.now) (seen other.now) in
-            MatchOption result (¬ InRange exact) (λ r. (seen r ≡ exact) × InRange exact)
-        };
+        ensures { IsExact seen InRange (product_of (seen self.now) (seen other.now)) result };
 
     /// Whether the two values are the same element.
     fn same(&self, other: &Self) -> bool
@@ -89,15 +80,11 @@ pub trait PhaseRing: Ring {
         ensures { Self.seen result ≡ turned_by k (Self.seen self.now) };
 
     /// Turns are products with powers of `w`, and half a turn is the negative.
-    ghost turn_laws: {
-        Self.IsPermitted →
-        TurnLaws Self.IsElement Self.unit Self.product_of Self.negative_of HALF turned_by
-    };
+    ghost turn_laws: { Self.IsPermitted →
+        TurnLaws Self.IsElement Self.unit Self.product_of Self.negative_of HALF turned_by };
 
     /// Heights grow by sums alone, and what has a height of at most `2 ^ 60` is in the range.
-    ghost height_laws: {
-        Self.IsPermitted →
+    ghost height_laws: { Self.IsPermitted →
         HeightLaws Self.IsElement Self.InRange Self.nought Self.unit Self.sum_of Self.negative_of
-            turned_by height_of
-    };
+        turned_by height_of };
 }

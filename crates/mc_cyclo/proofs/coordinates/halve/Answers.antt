@@ -29,18 +29,18 @@ loop-k-preserved c =
     simp to_z-of_z (record {
       done = below_more _ _
           (λ j h. let ne : j ≢ k = omega arith in
-            rw get_or-set_other (c.loop-k.invariant.done j h))
+          rw get_or-set_other (c.loop-k.invariant.done j h))
           (rw get_or-set_same is);
       small = below_more _ _
           (λ j h. let ne : j ≢ k = omega arith in
-            rw get_or-set_other (c.loop-k.invariant.small j h))
+          rw get_or-set_other (c.loop-k.invariant.small j h))
           (rw get_or-set_same c.in-Some.ensures.1);
     })
 
 pub returns-clause-yes : goal.returns-clause-yes
 returns-clause-yes c = λ h. (
   sum_by_places c.loop-k.halves c.loop-k.halves c.args.twice.now refl
-  (c.requires.alike ∙ sym c.loop-k.auto.halves)
-  (λ j k. c.loop-k.invariant.done j (omega arith)),
+      (c.requires.alike ∙ sym c.loop-k.auto.halves)
+      (λ j k. c.loop-k.invariant.done j (omega arith)),
   height-below (2 ^ 60) c.loop-k.halves (λ j k. c.loop-k.invariant.small j (omega arith)),
 )

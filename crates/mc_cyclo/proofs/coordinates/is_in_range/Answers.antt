@@ -6,13 +6,18 @@ use Rattle.mc_cyclo.proofs.coordinates.is_in_range.Goals as goal
 pub returns-then-unsigned_abs-gt-MOST : goal.returns-then-unsigned_abs-gt-MOST
 returns-then-unsigned_abs-gt-MOST c = (
   λ f. search rules,
-  λ low. absurd (omega (arith, ints, at-height c.args.coordinates.now c.coordinates.x-index,
-  c.unsigned_abs.ensures.value, c.if-unsigned_abs-gt-MOST.true)),
+  λ low. absurd (omega (
+    arith,
+    ints,
+    at-height c.args.coordinates.now c.coordinates.x-index,
+    c.unsigned_abs.ensures.value,
+    c.if-unsigned_abs-gt-MOST.true,
+  )),
 )
 
 pub returns : goal.returns
 returns c = (
   λ t. height-below (2 ^ 60) c.args.coordinates.now
-  (λ j h. c.coordinates.invariant j (omega (arith, c.coordinates-test.false))),
+      (λ j h. c.coordinates.invariant j (omega (arith, c.coordinates-test.false))),
   λ low. search rules,
 )

@@ -1,4 +1,4 @@
-use Rattle.std.proofs.Common.{arith, rules, ◌≡◌, ◌+◌, ◌%◌, ◌/◌, ◌<◌, ◌≤◌, ◌++◌, ◌∙◌, sym, ap, length, drop}
+use Rattle.std.proofs.Common.{arith, rules, ◌≡◌, ◌%◌, ◌/◌, ◌≤◌, ◌++◌, ◌∙◌, sym, ap, length, drop}
 use Rattle.mc_model.specs.Ring.{minus, rotations}
 use Rattle.mc_cyclo.specs.Height.{height, height-rotations}
 use Rattle.mc_cyclo.proofs.Turning.{turned_by_parts, round_in_range, even_half_turns, odd_half_turns}

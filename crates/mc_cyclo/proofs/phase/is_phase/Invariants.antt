@@ -1,4 +1,4 @@
-use Rattle.std.proofs.Common.{◌≡◌, ℕ, ◌<◌, List, [], ℤ, slice_index_or}
+use Rattle.std.proofs.Common.{◌≡◌, ℕ, ◌<◌, [], slice_index_or}
 use Rattle.mc_model.specs.Ring.{rotations}
 use Rattle.mc_cyclo.proofs.phase.is_phase.Given as goal
 

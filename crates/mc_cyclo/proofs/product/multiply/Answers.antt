@@ -12,22 +12,38 @@ loop-i-init c = record {
 }
 
 pub add_scaled-requires-clause-alike : goal.add_scaled-requires-clause-alike
-add_scaled-requires-clause-alike c = omega (arith, ap length c.loop-i.invariant.product, length-times (drop c.loop-i.i c.args.a.now) c.args.b.now)
+add_scaled-requires-clause-alike c =
+    omega (
+      arith,
+      ap length c.loop-i.invariant.product,
+      length-times (drop c.loop-i.i c.args.a.now) c.args.b.now,
+    )
 
 pub add_scaled-requires-clause-low : goal.add_scaled-requires-clause-low
-add_scaled-requires-clause-low c = omega (arith, ap height c.turn_once.ensures, height-rotated c.loop-i.wide)
+add_scaled-requires-clause-low c =
+    omega (arith, ap height c.turn_once.ensures, height-rotated c.loop-i.wide)
 
 pub add_scaled-requires-clause-low_factor : goal.add_scaled-requires-clause-low_factor
-add_scaled-requires-clause-low_factor c = omega (arith, ints, at-height c.args.a.now (c.loop-i.i - 1))
+add_scaled-requires-clause-low_factor c =
+    omega (arith, ints, at-height c.args.a.now (c.loop-i.i - 1))
 
 pub loop-i-preserved : goal.loop-i-preserved
 loop-i-preserved c =
     let i = c.loop-i.i - 1 in
-    let f : FitsSigned w64 (at c.args.a.now i) = fits_signed_from_abs w64 (at c.args.a.now i) (omega (arith, at-height c.args.a.now i)) in
-    let e : c.add_scaled.new.wide ≡ plus (scaled (at c.args.a.now i) c.args.b.now) (rotated c.loop-i.wide) = (simp to_z-of_z at c.add_scaled.ensures) ∙ ap (plus (scaled (at c.args.a.now i) c.args.b.now)) c.turn_once.ensures in
+    let a = c.args.a.now in
+    let b = c.args.b.now in
+    let low = at-height a i in
+    let f : FitsSigned w64 (at a i) = fits_signed_from_abs w64 (at a i) (omega arith) in
+    let added : c.add_scaled.new.wide ≡ plus (scaled (at a i) b) c.turn_once.new.wide =
+    simp to_z-of_z at c.add_scaled.ensures in
+    let e : c.add_scaled.new.wide ≡ plus (scaled (at a i) b) (rotated c.loop-i.wide) =
+    added ∙ ap (plus (scaled (at a i) b)) c.turn_once.ensures in
     let s : i + 1 ≡ c.loop-i.i = omega arith in
-    let m : length c.args.a.now - i ≡ length c.args.a.now - c.loop-i.i + 1 = omega arith in
+    let m : length a - i ≡ length a - c.loop-i.i + 1 = omega arith in
     record {
       product = e ∙ times_more _ _ _ i (omega arith) (rw s c.loop-i.invariant.product);
-      low = rw (e, m) (height_more _ _ _ i _ c.requires.a_in_range c.requires.b_in_range c.loop-i.invariant.low);
+      low =
+          rw (e, m)
+          (height_more _ _ _ i _ c.requires.a_in_range c.requires.b_in_range
+          c.loop-i.invariant.low);
     }

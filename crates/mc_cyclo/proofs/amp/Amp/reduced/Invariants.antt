@@ -1,4 +1,3 @@
-use Rattle.std.proofs.Common.{ℕ}
 use Rattle.mc_cyclo.specs.Cyclo.{IsLong}
 use Rattle.mc_cyclo.specs.Roots.{IsSameValue}
 use Rattle.mc_cyclo.proofs.amp.Amp.reduced.Given as goal

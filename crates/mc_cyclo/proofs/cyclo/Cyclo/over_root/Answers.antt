@@ -18,10 +18,16 @@ add_to-requires-clause-other_in_range g c =
 pub halve-requires-clause-low : goal.halve-requires-clause-low
 halve-requires-clause-low g c =
     let a = c.self.inside.coordinates in
-    omega (arith, ap height c.add_to.ensures, ap height c.turn.ensures,
-    ap height c.turn-2.ensures, height-plus c.turn.new.coordinates c.turn-2.new.coordinates,
-    height-rotations (g.row.H / 4) a, height-rotations (7 * (g.row.H / 4)) a,
-    c.self.invariant.in_range)
+    omega (
+      arith,
+      ap height c.add_to.ensures,
+      ap height c.turn.ensures,
+      ap height c.turn-2.ensures,
+      height-plus c.turn.new.coordinates c.turn-2.new.coordinates,
+      height-rotations (g.row.H / 4) a,
+      height-rotations (7 * (g.row.H / 4)) a,
+      c.self.invariant.in_range,
+    )
 
 pub returns-then-halve : goal.returns-then-halve
 returns-then-halve g c =
@@ -31,11 +37,10 @@ returns-then-halve g c =
     c.add_to.ensures ∙ ap₂ plus c.turn.ensures c.turn-2.ensures
     ∙ sym (root_turns g.row.H quartered a c.self.invariant.long) in
     let long : IsLong g.row.H c.halve.new.halves = search rules in
-    let twice = (c.halve.ensures.yes (search rules)).0 in
-    (
+    let twice = (c.halve.ensures.yes (search rules)).0 in (
       sym c.self.view_is
-      ∙ root_divides g.row.H quartered a c.halve.new.halves c.self.invariant.long long
-      (sym is ∙ twice),
+          ∙ root_divides g.row.H quartered a c.halve.new.halves c.self.invariant.long long
+          (sym is ∙ twice),
       long,
     )
 
