@@ -49,15 +49,15 @@ pub opened_first : (takes : Takes) (text : List ℕ) (begun opened headed : Left
 opened_first takes text begun opened headed kind place o clean =
     let some = rw o.begins at o.some in
     let opens : opened ≡ on_first (lines_of text) (end_of text) =
-        o.opens ∙ ap (λ (left : Left). on_first left.later left.last) o.begins in
+    o.opens ∙ ap (λ (left : Left). on_first left.later left.last) o.begins in
     let header = subst (λ (left : Left). IsHeader kind place left.here) opens o.header in
     let none = subst
-        (λ (left : Left). first_in_header (refused_kind takes) NoKind left.here left.lack ≡ None)
-        opens clean in
+    (λ (left : Left). first_in_header (refused_kind takes) NoKind left.here left.lack ≡ None)
+    opens clean in
     let later : headed.later ≡ (on_first (lines_of text) (end_of text)).later =
-        o.later ∙ ap (λ (left : Left). left.later) opens in
+    o.later ∙ ap (λ (left : Left). left.later) opens in
     let last : headed.last ≡ end_of text =
-        o.last ∙ ap (λ (left : Left). left.last) opens ∙ last_kept (lines_of text) (end_of text) in
+    o.last ∙ ap (λ (left : Left). left.last) opens ∙ last_kept (lines_of text) (end_of text) in
     rw (later, last) (first_by_kind takes (lines_of text) (end_of text) kind place some header none)
 
 pub opened_lines : (text : List ℕ) (begun opened headed : Left) (kind : Kind) (place : Place) →
@@ -65,6 +65,6 @@ pub opened_lines : (text : List ℕ) (begun opened headed : Left) (kind : Kind) 
 opened_lines text begun opened headed kind place o =
     let some = rw o.begins at o.some in
     let opens : opened ≡ on_first (lines_of text) (end_of text) =
-        o.opens ∙ ap (λ (left : Left). on_first left.later left.last) o.begins in
+    o.opens ∙ ap (λ (left : Left). on_first left.later left.last) o.begins in
     behind_header (lines_of text) (end_of text) some
     ∙ sym (o.later ∙ ap (λ (left : Left). left.later) opens)

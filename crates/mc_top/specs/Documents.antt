@@ -24,7 +24,7 @@ refused_kind takes _ = Some NoKind
 abbrev pub nothing_more : Rules
 nothing_more = record {
   judge = λ before here word. Some (fault BehindEnd);
-  lacks = λ before here. None
+  lacks = λ before here. None;
 }
 
 abbrev pub first_behind : List Line → Option (Judgement × Place)

@@ -5,6 +5,7 @@ use std::process::Abort;
 use std::test::Fail;
 
 const ONE_GATE: &str = "circuit 1\nin a\nj a 1\nout a\nend\n";
+
 const ONE_GATE_PATTERN: &str = "pattern 1\nin a\nn q1\ne a q1\nm a 7\nx q1 a\nout q1\nend\n";
 
 fn listed(alloc: Global, line: &str) -> Result<Vec<String>, Fail> {
@@ -35,7 +36,13 @@ fn check(
 }
 
 fn translates(rt: &impl Abort, alloc: Global, text: &str, pattern: &str) -> Result<(), Fail> {
-    check(rt, alloc, "translate", text.as_bytes(), (Status::Done, pattern, ""))
+    check(
+        rt,
+        alloc,
+        "translate",
+        text.as_bytes(),
+        (Status::Done, pattern, ""),
+    )
 }
 
 fn refuses(
@@ -67,7 +74,12 @@ fn row_of_gates(alloc: Global, gates: u32) -> Result<Vec<u8>, Fail> {
 fn translates_circuits(rt: HostRuntime) -> Result<(), Fail> {
     let alloc = rt.alloc();
     translates(&rt, alloc, ONE_GATE, ONE_GATE_PATTERN)?;
-    translates(&rt, alloc, "circuit 1\nin a b\nout b a\nend\n", "pattern 1\nin a b\nout b a\nend\n")?;
+    translates(
+        &rt,
+        alloc,
+        "circuit 1\nin a b\nout b a\nend\n",
+        "pattern 1\nin a b\nout b a\nend\n",
+    )?;
     translates(
         &rt,
         alloc,
@@ -92,7 +104,13 @@ fn translates_circuits(rt: HostRuntime) -> Result<(), Fail> {
 fn refuses_texts(rt: HostRuntime) -> Result<(), Fail> {
     let alloc = rt.alloc();
     refuses(&rt, alloc, "", (3, 1, 1), "mcalc: refused 3 at 1:1\n")?;
-    refuses(&rt, alloc, ONE_GATE_PATTERN, (4, 1, 1), "mcalc: refused 4 at 1:1\n")?;
+    refuses(
+        &rt,
+        alloc,
+        ONE_GATE_PATTERN,
+        (4, 1, 1),
+        "mcalc: refused 4 at 1:1\n",
+    )?;
     refuses(
         &rt,
         alloc,
@@ -129,7 +147,13 @@ fn keeps_to_limits(rt: HostRuntime) -> Result<(), Fail> {
     let mut text = Vec::from_slice(alloc, ONE_GATE.as_bytes())?;
     text.push(b'#')?;
     text.resize(8_388_608, b'x')?;
-    check(&rt, alloc, "translate", text.as_slice(), (Status::Done, ONE_GATE_PATTERN, ""))?;
+    check(
+        &rt,
+        alloc,
+        "translate",
+        text.as_slice(),
+        (Status::Done, ONE_GATE_PATTERN, ""),
+    )?;
     text.push(b'x')?;
     let passed = Status::Limit {
         which: 1,

@@ -20,12 +20,7 @@ use std::alloc::Global;
 const MOST_BYTES: usize = 8_388_608;
 
 /// Reads the whole source and makes the whole answer, and writes it.
-fn run<S: Source, K: Sink>(
-    alloc: Global,
-    task: Task,
-    source: &mut S,
-    out: &mut K,
-) -> Status
+fn run<S: Source, K: Sink>(alloc: Global, task: Task, source: &mut S, out: &mut K) -> Status
     ensures status { IfSome (S.left source.old) (λ input. IsStatus (due_of task input) result) }
     ensures written { IfSome (S.left source.old) (λ input. Writes result (K.written out.old) (K.written out.new) (due_of task input)) }
     ensures untouched { IsUnwritten result → out.new ≡ out.old }

@@ -8,8 +8,8 @@ pub returns-in-Ok-write_all-clause-status : goal.returns-in-Ok-write_all-clause-
 returns-in-Ok-write_all-clause-status g c =
     let bytes = c.in-Ok.bytes.items in
     let due : due_of c.args.task bytes ≡ answer c.in-Ok-answer.text.items =
-        due_within c.args.task bytes (let ok = c.in-Ok.bytes.ok.0 in omega (arith, c.in-Ok.ensures.short))
-        ∙ rw (← c.as_slice.ensures.value) c.in-Ok-answer.ensures.due in
+    due_within c.args.task bytes (let ok = c.in-Ok.bytes.ok.0 in omega (arith, c.in-Ok.ensures.short))
+    ∙ rw (← c.as_slice.ensures.value) c.in-Ok-answer.ensures.due in
     of_told _ (λ input. IsStatus (due_of c.args.task input) status.Done) bytes c.in-Ok.ensures.all
     (rw due (inl refl))
 
@@ -17,8 +17,8 @@ pub returns-in-Ok-write_all-clause-written : goal.returns-in-Ok-write_all-clause
 returns-in-Ok-write_all-clause-written g c =
     let bytes = c.in-Ok.bytes.items in
     let due : due_of c.args.task bytes ≡ answer c.in-Ok-answer.text.items =
-        due_within c.args.task bytes (let ok = c.in-Ok.bytes.ok.0 in omega (arith, c.in-Ok.ensures.short))
-        ∙ rw (← c.as_slice.ensures.value) c.in-Ok-answer.ensures.due in
+    due_within c.args.task bytes (let ok = c.in-Ok.bytes.ok.0 in omega (arith, c.in-Ok.ensures.short))
+    ∙ rw (← c.as_slice.ensures.value) c.in-Ok-answer.ensures.due in
     of_told _ (λ input. Writes status.Done _ _ (due_of c.args.task input)) bytes c.in-Ok.ensures.all
     (rw (due, ← c.as_slice-2.ensures.value) c.in-Ok-write_all.ensures.ok)
 
@@ -26,8 +26,8 @@ pub returns-clause-status : goal.returns-clause-status
 returns-clause-status g c =
     let bytes = c.in-Ok.bytes.items in
     let due : due_of c.args.task bytes ≡ answer c.in-Ok-answer.text.items =
-        due_within c.args.task bytes (let ok = c.in-Ok.bytes.ok.0 in omega (arith, c.in-Ok.ensures.short))
-        ∙ rw (← c.as_slice.ensures.value) c.in-Ok-answer.ensures.due in
+    due_within c.args.task bytes (let ok = c.in-Ok.bytes.ok.0 in omega (arith, c.in-Ok.ensures.short))
+    ∙ rw (← c.as_slice.ensures.value) c.in-Ok-answer.ensures.due in
     of_told _ (λ input. IsStatus (due_of c.args.task input) status.WriteFault) bytes
     c.in-Ok.ensures.all (rw due (inr (inr (inr (refl, refl)))))
 
@@ -35,7 +35,7 @@ pub returns-clause-written : goal.returns-clause-written
 returns-clause-written g c =
     let bytes = c.in-Ok.bytes.items in
     let due : due_of c.args.task bytes ≡ answer c.in-Ok-answer.text.items =
-        due_within c.args.task bytes (let ok = c.in-Ok.bytes.ok.0 in omega (arith, c.in-Ok.ensures.short))
-        ∙ rw (← c.as_slice.ensures.value) c.in-Ok-answer.ensures.due in
+    due_within c.args.task bytes (let ok = c.in-Ok.bytes.ok.0 in omega (arith, c.in-Ok.ensures.short))
+    ∙ rw (← c.as_slice.ensures.value) c.in-Ok-answer.ensures.due in
     of_told _ (λ input. Writes status.WriteFault _ _ (due_of c.args.task input)) bytes
     c.in-Ok.ensures.all (rw (due, ← c.as_slice-2.ensures.value) c.in-Err-write_all.ensures.failed)
