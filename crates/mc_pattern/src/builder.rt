@@ -65,7 +65,7 @@ impl<const H: usize> Model for Builder<H> {
     ghost view = { λ b. begun b.names b.inputs (map plain_command b.commands.items) };
 
     ghost invariant = { λ b.
-        IsBuilt (begun b.names b.inputs (map plain_command b.commands.items)) b.marks.items };
+        IsBuilt H (begun b.names b.inputs (map plain_command b.commands.items)) b.marks.items };
 }
 
 /// The qubit that a command measures, if it measures one.
@@ -100,6 +100,8 @@ fn mark(marks: &mut [bool], q: Option<u16>)
 }
 
 impl<const H: usize> Builder<H> {
+    ghost use Rattle.mc_pattern.specs.Patterns.{IsBegun};
+
     /// A pattern of the inputs alone.
     pub fn new(alloc: Global, inputs: Names) -> Result<Builder<H>, Memory>
         ensures { IfOk result (λ builder. builder ≡ begun inputs (length inputs) []) }
@@ -114,6 +116,14 @@ impl<const H: usize> Builder<H> {
             }),
             Err(_) => Err(Memory),
         }
+    }
+
+    /// The names of the qubits so far.
+    pub fn names(&self) -> &Names
+        ensures names { result.now ≡ self.now.names }
+        ensures valid { IsBegun H self.now }
+    {
+        &self.names
     }
 
     /// Adds a qubit and its preparation, and gives the qubit's number. Refusals come in the order of `PushEnd`, and leave the

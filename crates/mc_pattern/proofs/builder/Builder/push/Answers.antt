@@ -14,7 +14,7 @@ invariant_of-self-2 g c =
     let long = c.self.inside.marks.ok.0 in
     let back = come_back c.self.inside.marks.items c.mark.new.marks _ long (rw marks at lent) in
     rw (c.in-Ok.ensures.ok, map-append, back)
-    (built_push _ _ _ _ _ _ c.self.invariant c.requires c.in_default.ensures.sets
+    (built_push _ _ _ _ _ _ _ c.self.invariant c.requires c.in_default.ensures.typed
     (rw (c.len.ensures.len, c.as_slice.ensures.value) at unbroken)
     (rw length-map (omega arith))
     (rw marks at lent)
