@@ -87,7 +87,8 @@ typed_with half (d ∷ cs) c all one = (all.0, typed_with half cs c all.1 one)
 -- one more qubit
 pub built_prep : (half : ℕ) (names : List Name) (inputs : ℕ) (cs : List Command) (marks : List Bool)
     (name : Name) →
-    IsBuilt half (begun names inputs cs) marks → AreNames (names ++ (name ∷ [])) → length cs < 262144 →
+    IsBuilt half (begun names inputs cs) marks → AreNames (names ++ (name ∷ [])) →
+    length cs < 262144 →
     IsBuilt half (begun (names ++ (name ∷ [])) inputs (cs ++ (Prep (length names) ∷ []))) marks
 built_prep half names inputs cs marks name h valid room =
     let size = h.begun.qubits in
@@ -134,8 +135,8 @@ built_push half names inputs cs marks marks' c h no_prep typed unbroken room lon
     }
 
 -- a pattern
-pub built_whole : (half : ℕ) (names : List Name) (inputs : ℕ) (cs : List Command) (marks : List Bool)
-    (outputs : List ℕ) →
+pub built_whole : (half : ℕ) (names : List Name) (inputs : ℕ) (cs : List Command)
+    (marks : List Bool) (outputs : List ℕ) →
     IsBuilt half (begun names inputs cs) marks →
     output_rule (length names) (bits_of marks) outputs ≡ None →
     IsPattern half (with_outputs (begun names inputs cs) outputs)

@@ -144,7 +144,7 @@ impl<const H: usize> Builder<H> {
             ((place_of self.old.names name ≡ None) × (length self.old.names < 256)
             × (length self.old.commands ≡ 262_144)) }
         ensures no_rule { (n : ℕ) → result ≡ Err (PushEnd.Rule n) → ⊥ }
-        ensures memory_last { result ≡ Err PushEnd.Memory → IsFree self.old name }
+        ensures memory_last { IfErr result (λ end. (end ≡ PushEnd.Memory) ↔ IsFree self.old name) }
         ensures err { OnErr result (self.new ≡ self.old) }
     {
         if let Some(q) = self.names.find(&name) {
@@ -163,7 +163,7 @@ impl<const H: usize> Builder<H> {
         };
         match self.names.add(name) {
             Ok(number) => {
-                // the proof needs that these are names
+                // the proof needs that the names are distinct
                 let _count = self.names.len();
                 Ok(number)
             }
@@ -191,9 +191,9 @@ impl<const H: usize> Builder<H> {
             × (length self.old.commands ≡ 262_144)) }
         ensures no_twice { (q : ℕ) → result ≡ Err (PushEnd.Twice q) → ⊥ }
         ensures no_full { result ≡ Err PushEnd.Full → ⊥ }
-        ensures memory_last { result ≡ Err PushEnd.Memory →
-            (broken_rule self.old (plain_command command.entry) ≡ None)
-            × (length self.old.commands < 262_144) }
+        ensures memory_last { IfErr result (λ end. (end ≡ PushEnd.Memory) ↔
+            ((broken_rule self.old (plain_command command.entry) ≡ None)
+            × (length self.old.commands < 262_144))) }
         ensures err { OnErr result (self.new ≡ self.old) }
     {
         if let Some(rule) = rule_of(self.names.len(), self.marks.as_slice(), &command) {

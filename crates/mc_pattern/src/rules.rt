@@ -98,6 +98,7 @@ pub(crate) fn rule_of<const H: usize>(
         Command::Prep(_) => None,
         Command::Ent(q, r) => pair_rule(count, marks, *q, *r),
         Command::Meas { q, angle, s, t } => {
+            // the proof needs that the angle is less than a turn
             let _steps = angle.steps();
             if let Some(rule) = signal_rule(count, marks, *q, s) {
                 Some(rule)
