@@ -1,13 +1,10 @@
 -- The canonical text of a circuit.
-use Rattle.std.specs.Prelude.{ℕ, List, [], ◌∷◌, ◌++◌, map, codes, take, drop, slice_get, unwrap_or}
+use Rattle.std.specs.Prelude.{ℕ, List, [], ◌∷◌, ◌++◌, map, codes, take, drop}
 use Rattle.std.specs.Fmt.{decimal}
 use Rattle.mc_write.specs.Text.{Line, text_of}
+use Rattle.mc_write.specs.Named.{name_at}
 use Rattle.mc_model.specs.Names.{Name}
 use Rattle.mc_model.specs.Pattern.{Circuit, Gate, J, CZ}
-
--- the name of a number
-abbrev pub name_at : List Name → ℕ → Name
-name_at names q = unwrap_or (slice_get names q) []
 
 abbrev pub gate_line : List Name → Gate → Line
 gate_line names (J v a) = codes "j" ∷ name_at names v ∷ decimal a ∷ []
@@ -18,13 +15,13 @@ abbrev pub plus_lines : List Name → List Line
 plus_lines [] = []
 plus_lines (name ∷ names) = (codes "plus" ∷ name ∷ names) ∷ []
 
+-- the lines behind the header
 abbrev pub circuit_lines : Circuit → List Line
 circuit_lines c =
-    (codes "circuit" ∷ codes "1" ∷ [])
-    ∷ (codes "in" ∷ take c.inputs c.names)
+    (codes "in" ∷ take c.inputs c.names)
     ∷ (plus_lines (drop c.inputs c.names)
     ++ (map (gate_line c.names) c.gates
     ++ (codes "out" ∷ map (name_at c.names) c.outputs) ∷ (codes "end" ∷ []) ∷ []))
 
 abbrev pub circuit_text : Circuit → List ℕ
-circuit_text c = text_of (circuit_lines c)
+circuit_text c = text_of ((codes "circuit" ∷ codes "1" ∷ []) ∷ circuit_lines c)

@@ -1,20 +1,28 @@
--- What every circuit keeps, and why a gate or a list of outputs is refused.
-use Rattle.std.specs.Prelude.{◌≡◌, ℕ, ◌≤◌, ◌<◌, Bool, not, ◌&&◌, nat_lt, nat_eq, length, if◌then◌else◌, Option, None, Some}
+-- What every circuit keeps, and why a gate is refused.
+use Rattle.std.specs.Prelude.{ℕ, ◌*◌, ◌≤◌, ◌<◌, not, ◌&&◌, nat_lt, nat_eq, List, [], ◌∷◌, length, if◌then◌else◌, Option, None, Some, ⊤}
 use Rattle.mc_model.specs.Pattern.{Circuit, Gate, J, CZ}
 use Rattle.mc_model.specs.Names.{AreNames}
 use Rattle.mc_model.specs.Valid.{IsValidCircuit, GatesFit}
 
--- valid, and of at most 32,768 gates
-pub record IsCircuit (c : Circuit) : Type 0 where
+-- each angle is less than a turn
+abbrev pub AnglesFit : ℕ → List Gate → Type 0
+AnglesFit half [] = ⊤
+AnglesFit half (J v a ∷ gs) = (a < 2 * half) × AnglesFit half gs
+AnglesFit half (CZ v u ∷ gs) = AnglesFit half gs
+
+-- valid, of at most 32,768 gates, and with angles of less than a turn
+pub record IsCircuit (half : ℕ) (c : Circuit) : Type 0 where
   pub valid : IsValidCircuit c
   pub few : length c.gates ≤ 32768
+  pub angles : AnglesFit half c.gates
 
 -- the same without outputs
-pub record IsBegun (c : Circuit) : Type 0 where
+pub record IsBegun (half : ℕ) (c : Circuit) : Type 0 where
   pub names : AreNames c.names
   pub inputs : c.inputs ≤ length c.names
   pub gates : GatesFit (length c.names) c.gates
   pub few : length c.gates ≤ 32768
+  pub angles : AnglesFit half c.gates
 
 -- the least rule that a gate breaks: 1, an operand is no wire; 2, both operands of a CZ are one wire
 abbrev pub broken_rule : ℕ → Gate → Option ℕ

@@ -1,13 +1,14 @@
 //! Building circuits.
 
-ghost use Rattle.std.specs.Prelude.{◌≡◌, ◌↔◌, ℕ, ◌<◌, ◌≤◌, [], ◌∷◌, ◌++◌, length, map, Err, Some, None, OnOk, IfOk, OnErr, IfErr, IsTrue, true};
+ghost use Rattle.std.specs.Prelude.{◌≡◌, ◌↔◌, ℕ, ◌<◌, ◌≤◌, [], ◌∷◌, ◌++◌, length, map, Err, Some, None, OnOk, IfOk, OnErr, IfErr, IsTrue, true, nat_lt};
 ghost use Rattle.mc_model.specs.Names.{place_of};
 ghost use Rattle.mc_model.specs.Numbers.{ListsOnce};
 ghost use Rattle.mc_circuit.specs.Gates.{plain_gate};
-ghost use Rattle.mc_circuit.specs.Circuits.{broken_rule};
+ghost use Rattle.mc_circuit.specs.Circuits.{broken_rule, AnglesFit};
 
 use crate::circuit::Circuit;
 use crate::gate::Gate;
+use mc_lists::lists_once;
 use mc_names::{Name, Names, NamesEnd};
 use std::alloc::Global;
 use std::marker::Model;
@@ -49,20 +50,18 @@ impl<const H: usize> Model for CircuitBuilder<H> {
 
     ghost view = { λ c. record { names = c.names; inputs = c.inputs; outputs = []; gates = map plain_gate c.gates.items } };
 
-    ghost invariant = { λ c. IsBegun (record { names = c.names; inputs = c.inputs; outputs = []; gates = map plain_gate c.gates.items }) };
+    ghost invariant = { λ c. IsBegun H (record { names = c.names; inputs = c.inputs; outputs = []; gates = map plain_gate c.gates.items }) };
 }
 
 /// The least rule that a gate on so many wires breaks, if it breaks one.
 fn rule_of<const H: usize>(wires: u16, gate: &Gate<H>) -> Option<u8>
-    ensures { result ≡ broken_rule wires (plain_gate gate.now) }
+    ensures rule { result ≡ broken_rule wires (plain_gate gate.now) }
+    ensures angle { AnglesFit H (plain_gate gate.now ∷ []) }
 {
     match *gate {
-        Gate::J { wire, .. } => {
-            if wire < wires {
-                None
-            } else {
-                Some(1)
-            }
+        Gate::J { wire, angle } => {
+            let _steps = angle.steps();
+            if wire < wires { None } else { Some(1) }
         }
         Gate::Cz { a, b } => {
             if !(a < wires && b < wires) {
@@ -74,6 +73,15 @@ fn rule_of<const H: usize>(wires: u16, gate: &Gate<H>) -> Option<u8>
             }
         }
     }
+}
+
+/// Whether a list has each of so many wires once, and no other number.
+fn lists_each(wires: u16, out: &[u16]) -> bool
+    requires { wires ≤ 256 }
+    ensures { IsTrue result ↔ ListsOnce wires (λ v. true) out.now }
+{
+    let due = [true; 256];
+    lists_once(out, &due[..wires as usize])
 }
 
 impl<const H: usize> CircuitBuilder<H> {
@@ -101,12 +109,14 @@ impl<const H: usize> CircuitBuilder<H> {
         ensures no_limit { result ≡ Err CircuitEnd.Limit → ⊥ }
         ensures err { OnErr result (self.new ≡ self.old) }
     {
-        match self.names.add(name) {
-            Ok(number) => Ok(number),
-            Err(NamesEnd::Twice(number)) => Err(CircuitEnd::Twice(number)),
-            Err(NamesEnd::Full) => Err(CircuitEnd::Full),
-            Err(NamesEnd::Memory) => Err(CircuitEnd::Memory),
-        }
+        let number = match self.names.add(name) {
+            Ok(number) => number,
+            Err(NamesEnd::Twice(number)) => return Err(CircuitEnd::Twice(number)),
+            Err(NamesEnd::Full) => return Err(CircuitEnd::Full),
+            Err(NamesEnd::Memory) => return Err(CircuitEnd::Memory),
+        };
+        let _count = self.names.len();
+        Ok(number)
     }
 
     /// Adds a gate. `Rule` gives the least broken rule: 1, an operand is no wire; 2, both operands of a CZ are one wire.
@@ -116,7 +126,7 @@ impl<const H: usize> CircuitBuilder<H> {
         ensures unbroken { OnOk result (broken_rule (length self.old.names) (plain_gate gate.entry) ≡ None) }
         ensures room { OnOk result (length self.old.gates < 32_768) }
         ensures rule { (n : ℕ) → (result ≡ Err (CircuitEnd.Rule n)) ↔ (broken_rule (length self.old.names) (plain_gate gate.entry) ≡ Some n) }
-        ensures limit { result ≡ Err CircuitEnd.Limit → (broken_rule (length self.old.names) (plain_gate gate.entry) ≡ None) × (length self.old.gates ≡ 32_768) }
+        ensures limit { (result ≡ Err CircuitEnd.Limit) ↔ ((broken_rule (length self.old.names) (plain_gate gate.entry) ≡ None) × (length self.old.gates ≡ 32_768)) }
         ensures no_twice { (q : ℕ) → result ≡ Err (CircuitEnd.Twice q) → ⊥ }
         ensures no_full { result ≡ Err CircuitEnd.Full → ⊥ }
         ensures err { OnErr result (self.new ≡ self.old) }
@@ -127,9 +137,36 @@ impl<const H: usize> CircuitBuilder<H> {
         if self.gates.len() >= MOST_GATES {
             return Err(CircuitEnd::Limit);
         }
-        match self.gates.push(gate) {
-            Ok(_) => Ok(()),
-            Err(_) => Err(CircuitEnd::Memory),
+        let Ok(_) = self.gates.push(gate) else {
+            return Err(CircuitEnd::Memory);
+        };
+        Ok(())
+    }
+
+    /// The circuit with these outputs. `Rule(3)` comes where a wire does not stand there once or another number does.
+    /// A refusal hands the builder back as it was.
+    pub fn finish(
+        self,
+        alloc: Global,
+        out: &[u16],
+    ) -> Result<Circuit<H>, (CircuitBuilder<H>, CircuitEnd)>
+        ensures circuit { IfOk result (λ circuit. circuit ≡ record self.entry { outputs = out.now }) }
+        ensures lists { OnOk result (ListsOnce (length self.entry.names) (λ v. true) out.now) }
+        ensures rule { IfErr result (λ refused. (refused.1 ≡ CircuitEnd.Rule 3) ↔ ¬ (ListsOnce (length self.entry.names) (λ v. true) out.now)) }
+        ensures memory_last { IfErr result (λ refused. (refused.1 ≡ CircuitEnd.Memory) ↔ ListsOnce (length self.entry.names) (λ v. true) out.now) }
+        ensures kept { IfErr result (λ refused. refused.0 ≡ self.entry) }
+    {
+        if !lists_each(self.names.len(), out) {
+            return Err((self, CircuitEnd::Rule(3)));
+        }
+        match out.to_vec(alloc) {
+            Ok(out) => Ok(Circuit {
+                names: self.names,
+                inputs: self.inputs,
+                gates: self.gates,
+                out,
+            }),
+            Err(_) => Err((self, CircuitEnd::Memory)),
         }
     }
 }

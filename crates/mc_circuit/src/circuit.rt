@@ -28,7 +28,7 @@ impl<const H: usize> Model for Circuit<H> {
 
     ghost view = { λ c. record { names = c.names; inputs = c.inputs; outputs = c.out.items; gates = map plain_gate c.gates.items } };
 
-    ghost invariant = { λ c. IsCircuit (record { names = c.names; inputs = c.inputs; outputs = c.out.items; gates = map plain_gate c.gates.items }) };
+    ghost invariant = { λ c. IsCircuit H (record { names = c.names; inputs = c.inputs; outputs = c.out.items; gates = map plain_gate c.gates.items }) };
 }
 
 impl<const H: usize> Circuit<H> {
@@ -37,7 +37,7 @@ impl<const H: usize> Circuit<H> {
     /// The names of the wires.
     pub fn names(&self) -> &Names
         ensures names { result.now ≡ self.now.names }
-        ensures valid { IsCircuit self.now }
+        ensures valid { IsCircuit H self.now }
     {
         &self.names
     }

@@ -5,6 +5,8 @@ mod builder;
 mod circuit;
 mod gate;
 mod print;
+#[cfg(test)]
+mod tests;
 
 pub use builder::{CircuitBuilder, CircuitEnd};
 pub use circuit::Circuit;

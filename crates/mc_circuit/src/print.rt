@@ -1,14 +1,134 @@
 //! Printing a circuit.
 
-ghost use Rattle.std.specs.Prelude.{◌≡◌, IfOk};
-ghost use Rattle.mc_circuit.specs.Canonical.{circuit_text};
+ghost use Rattle.std.specs.Prelude.{◌≡◌, ◌++◌, ◌∷◌, [], ◌<◌, ◌≤◌, All, IfOk, OnOk, length, map, codes, take, drop};
+ghost use Rattle.mc_model.specs.Pattern.{J};
+ghost use Rattle.mc_model.specs.Valid.{GatesFit};
+ghost use Rattle.mc_write.specs.Text.{line_text, text_of};
+ghost use Rattle.mc_write.specs.Named.{name_at};
+ghost use Rattle.mc_circuit.specs.Gates.{plain_gate};
+ghost use Rattle.mc_circuit.specs.Canonical.{gate_line, plus_lines, circuit_text};
 
 use crate::circuit::Circuit;
+use crate::gate::Gate;
+use mc_angle::Angle;
 use mc_model::Memory;
+use mc_names::Names;
+use mc_write::{
+    add_name, add_names, add_names_between, add_number, add_word, end_line, start_line,
+};
 use std::alloc::Global;
+
+fn print_header(text: &mut Vec<u8>) -> Result<(), Memory>
+    ensures { OnOk result (text.new.items ≡ text.old.items ++ line_text (codes "circuit" ∷ codes "1" ∷ [])) }
+{
+    start_line(text, b"circuit")?;
+    add_word(text, b"1")?;
+    end_line(text)
+}
+
+fn print_inputs(text: &mut Vec<u8>, names: &Names, inputs: u16) -> Result<(), Memory>
+    requires { inputs ≤ length names.now }
+    ensures { OnOk result (text.new.items ≡ text.old.items ++ line_text (codes "in" ∷ take inputs names.now)) }
+{
+    start_line(text, b"in")?;
+    add_names_between(text, names, 0, inputs)?;
+    end_line(text)
+}
+
+/// The line of the wires that are no inputs, where there is one.
+fn print_plus(text: &mut Vec<u8>, names: &Names, inputs: u16) -> Result<(), Memory>
+    requires { inputs ≤ length names.now }
+    ensures { OnOk result (text.new.items ≡ text.old.items ++ text_of (plus_lines (drop inputs names.now))) }
+{
+    if inputs == names.len() {
+        return Ok(());
+    }
+    start_line(text, b"plus")?;
+    add_names_between(text, names, inputs, names.len())?;
+    end_line(text)
+}
+
+fn print_j<const H: usize>(
+    text: &mut Vec<u8>,
+    names: &Names,
+    wire: u16,
+    angle: &Angle<H>,
+) -> Result<(), Memory>
+    requires { wire < length names.now }
+    ensures { OnOk result (text.new.items ≡ text.old.items ++ line_text (gate_line names.now (J wire angle.now))) }
+{
+    start_line(text, b"j")?;
+    add_name(text, names, wire)?;
+    add_number(text, angle.steps() as u32)?;
+    end_line(text)
+}
+
+fn print_cz(text: &mut Vec<u8>, names: &Names, a: u16, b: u16) -> Result<(), Memory>
+    requires first { a < length names.now }
+    requires second { b < length names.now }
+    ensures { OnOk result (text.new.items ≡ text.old.items ++ line_text (codes "cz" ∷ name_at names.now a ∷ name_at names.now b ∷ [])) }
+{
+    start_line(text, b"cz")?;
+    add_name(text, names, a)?;
+    add_name(text, names, b)?;
+    end_line(text)
+}
+
+fn print_gate<const H: usize>(
+    text: &mut Vec<u8>,
+    names: &Names,
+    gate: &Gate<H>,
+) -> Result<(), Memory>
+    requires { GatesFit (length names.now) (plain_gate gate.now ∷ []) }
+    ensures { OnOk result (text.new.items ≡ text.old.items ++ line_text (gate_line names.now (plain_gate gate.now))) }
+{
+    match gate {
+        Gate::J { wire, angle } => print_j(text, names, *wire, angle),
+        Gate::Cz { a, b } => print_cz(text, names, *a, *b),
+    }
+}
+
+fn print_gates<const H: usize>(
+    text: &mut Vec<u8>,
+    names: &Names,
+    gates: &[Gate<H>],
+) -> Result<(), Memory>
+    requires { GatesFit (length names.now) (map plain_gate gates.now) }
+    ensures { OnOk result (text.new.items ≡ text.old.items ++ text_of (map (gate_line names.now) (map plain_gate gates.now))) }
+{
+    'gates: for gate in gates {
+        print_gate(text, names, gate)?;
+    }
+    Ok(())
+}
+
+fn print_outputs(text: &mut Vec<u8>, names: &Names, out: &[u16]) -> Result<(), Memory>
+    requires { All (λ q. q < length names.now) out.now }
+    ensures { OnOk result (text.new.items ≡ text.old.items ++ line_text (codes "out" ∷ map (name_at names.now) out.now)) }
+{
+    start_line(text, b"out")?;
+    add_names(text, names, out)?;
+    end_line(text)
+}
+
+fn print_end(text: &mut Vec<u8>) -> Result<(), Memory>
+    ensures { OnOk result (text.new.items ≡ text.old.items ++ line_text (codes "end" ∷ [])) }
+{
+    start_line(text, b"end")?;
+    end_line(text)
+}
 
 /// The canonical text of a circuit.
 pub fn print_circuit<const H: usize>(alloc: Global, circuit: &Circuit<H>) -> Result<Vec<u8>, Memory>
+    ensures { IfOk result (λ text. text.items ≡ circuit_text circuit.now) }
 {
-    Err(Memory)
+    let mut text = Vec::new(alloc);
+    let names = circuit.names();
+    print_header(&mut text)?;
+    print_inputs(&mut text, names, circuit.inputs())?;
+    print_plus(&mut text, names, circuit.inputs())?;
+    print_gates(&mut text, names, circuit.gates())?;
+    print_outputs(&mut text, names, circuit.out())?;
+    print_end(&mut text)?;
+    Ok(text)
 }

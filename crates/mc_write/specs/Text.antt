@@ -1,5 +1,5 @@
 -- The text of lines of words, as it is written: a blank between words, a line feed behind each line.
-use Rattle.std.specs.Prelude.{ℕ, List, [], ◌∷◌, ◌++◌, map}
+use Rattle.std.specs.Prelude.{ℕ, List, [], ◌∷◌, ◌++◌}
 use Rattle.std.specs.List.{flat_map}
 
 -- a line, by its words
