@@ -1,9 +1,8 @@
 -- What a builder keeps at each step, and the pattern that it gives.
-use Rattle.std.proofs.Common.{◌≡◌, ℕ, suc, ◌+◌, ◌<◌, Bool, true, false, not, List, [], ◌∷◌, ◌++◌, refl, sym, ◌∙◌, ap, arith, length, length-append, set, take, drop, replicate, None, get_or-set_same, get_or-set_other}
+use Rattle.std.proofs.Common.{◌≡◌, ℕ, suc, ◌+◌, ◌<◌, Bool, true, false, not, List, [], ◌∷◌, ◌++◌, refl, sym, ◌∙◌, ap, arith, length, length-append, set, replicate, None, get_or-set_same, get_or-set_other}
 use Rattle.std.proofs.lemmas.Bool.{eq-eqb, ne_eqb, cases_eq, cases_lt}
 use Rattle.std.proofs.lemmas.List.{get_or-replicate, get_or_past, length-replicate}
 use Rattle.std.proofs.lemmas.Option.{unwrap_or-slice_get}
-use Rattle.std.proofs.Math.Seq.{take-append_seam}
 use mathlib.Core.Path.{fun_ext}
 use mathlib.Core.Logic.{inl, inr}
 use Rattle.mc_model.specs.Bits.{Bits, replaced}
@@ -159,9 +158,3 @@ measured_others half p h =
     ap (λ (n : ℕ). n + measured_count p)
     (length-listed (length p.names) free p.outputs h.valid.outputs)
     ∙ count_either (length p.names) (measured p.commands)
-
--- marks that were lent come back
-pub come_back : (marks lent : List Bool) (n : ℕ) → n ≡ length marks → length lent ≡ length marks →
-    take n (lent ++ drop (length lent) marks) ≡ lent
-come_back marks lent n size long =
-    rw (size, ← long) (take-append_seam lent (drop (length lent) marks))

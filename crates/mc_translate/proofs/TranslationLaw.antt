@@ -1,11 +1,11 @@
 -- The amplitudes after a translated list of gates are those after the gates.
-use Rattle.std.proofs.Common.{◌≡◌, ℕ, zero, suc, ◌+◌, ◌<◌, Bool, true, false, cond, ◌&&◌, ◌-◌, ◌++◌, map, List, [], ◌∷◌, not, refl, sym, ◌∙◌, ap, ap₂, arith}
+use Rattle.std.proofs.Common.{◌≡◌, ℕ, zero, suc, ◌+◌, ◌<◌, Bool, true, false, cond, ◌&&◌, ◌-◌, map, List, [], ◌∷◌, not, refl, sym, ◌∙◌, ap, ap₂, arith}
 use Rattle.std.proofs.lemmas.Bool.{eq-eqb, ne_eqb, cases_eq}
 use mathlib.Core.Logic.{inl, inr}
 use Rattle.mc_model.specs.Phase.{PhaseOps, PhaseLaws, turn, sign, negated, measured_angle}
 use Rattle.mc_model.specs.Bits.{◌⊻◌, Bits, replaced, parity}
 use Rattle.mc_model.specs.Signals.{value, no_signal, signal_of}
-use Rattle.mc_model.specs.Pattern.{Command, Prep, Ent, Meas, FixX, Gate, J, CZ, Circuit, wires}
+use Rattle.mc_model.specs.Pattern.{Prep, Ent, Meas, FixX, Gate, J, CZ, Circuit, wires}
 use Rattle.mc_model.specs.Amplitude.{Amps, act, after, act_gate, after_gates, start, agrees, placed, amp, branch_map, circuit_table}
 use Rattle.mc_model.specs.Translation.{moved, translated, last_qubits, preparations, translation}
 use Rattle.mc_model.specs.Valid.{GatesFit, IsValidCircuit}

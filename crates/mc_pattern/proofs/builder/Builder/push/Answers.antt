@@ -1,6 +1,7 @@
 use Rattle.std.proofs.Common.{sym, arith}
 use Rattle.std.proofs.lemmas.List.{map-append, length-map}
-use Rattle.mc_pattern.proofs.Built.{built_push, come_back}
+use Rattle.mc_pattern.proofs.Built.{built_push}
+use Rattle.mc_pattern.proofs.Lent.{come_back}
 use Rattle.mc_pattern.proofs.builder.Builder.push.Goals as goal
 
 pub invariant_of-self-2 : goal.invariant_of-self-2
