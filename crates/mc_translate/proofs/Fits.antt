@@ -85,7 +85,10 @@ fix_fits inputs q next a s t cs live size unborn =
             ∙ replaced_other (measured before) q true next (λ e. k.apart (sym e))
             ∙ k.second.is_not_measured;
       },
-      record { is_set = (tt, tt); is_done = (after q ∙ replaced_same (measured before) q true, tt) },
+      record {
+        is_set = (tt, tt);
+        is_done = (after q ∙ replaced_same (measured before) q true, tt);
+      },
     )
 
 -- there is room for each of the four commands

@@ -48,7 +48,8 @@ last_same wires (J w a ∷ gs) f g next h v lt =
 last_same wires (CZ w u ∷ gs) f g next h v lt = last_same wires gs f g next h v lt
 
 -- the gates of `rest` are left, and what was made makes up the translation with theirs
-pub record IsGoing (half : ℕ) (c : Circuit) (at : List ℕ) (p : Pattern) (rest : List Gate) : Type 0 where
+pub record IsGoing (half : ℕ) (c : Circuit) (at : List ℕ) (p : Pattern)
+    (rest : List Gate) : Type 0 where
   pub long : length at ≡ wires c
   pub fits : GatesFit (wires c) rest
   pub standing : IsStanding (wires c) (length p.names) (qubit_of at) p.inputs p.commands
@@ -69,7 +70,8 @@ moved_set at v r lt u = elim (cases_eq u v) [
   | inr ne ↦ rw (ne_eqb u v ne) (sym (get_or-set_other at v u r 0 ne))
 ]
 
-pub going_step : (half : ℕ) (c : Circuit) (at : List ℕ) (p : Pattern) (gate : Gate) (rest : List Gate) →
+pub going_step : (half : ℕ) (c : Circuit) (at : List ℕ) (p : Pattern) (gate : Gate)
+    (rest : List Gate) →
     IsGoing half c at p (gate ∷ rest) →
     IsGoing half c (qubits_behind at gate (length p.names)) (with_gate half at gate p) rest
 unfolding translated last_qubits j_count
@@ -106,7 +108,8 @@ going_step half c at p (J v a) rest h =
           ∙ h.commands);
       last = λ u m.
           rw (longer, ← one)
-          (sym (last_same (wires c) rest (moved (qubit_of at) v next) (qubit_of at') (suc next) same u m)
+          (sym (last_same (wires c) rest (moved (qubit_of at) v next) (qubit_of at') (suc next) same
+          u m)
           ∙ h.last u m);
     }
 going_step half c at p (CZ v u) rest h =
@@ -116,7 +119,8 @@ going_step half c at p (CZ v u) rest h =
     record {
       long = h.long;
       fits = h.fits.3;
-      standing = standing_cz (wires c) (length p.names) p.inputs (qubit_of at) p.commands q r h.standing;
+      standing =
+          standing_cz (wires c) (length p.names) p.inputs (qubit_of at) p.commands q r h.standing;
       qubits = h.qubits;
       room = let room = h.room in omega arith;
       inputs = h.inputs;
@@ -126,7 +130,8 @@ going_step half c at p (CZ v u) rest h =
     }
 
 -- a gate that is left may be added
-pub going_ready : (half : ℕ) (c : Circuit) (at : List ℕ) (p : Pattern) (gate : Gate) (rest : List Gate) →
+pub going_ready : (half : ℕ) (c : Circuit) (at : List ℕ) (p : Pattern) (gate : Gate)
+    (rest : List Gate) →
     qubit_count c ≤ 256 → IsGoing half c at p (gate ∷ rest) → CanStep at gate p
 unfolding j_count
 going_ready half c at p (J v a) rest few h = record {
@@ -179,7 +184,8 @@ going_start half c h =
       names = refl;
       commands =
           ap (λ (cs : List Command). preparations c.inputs (wires c - c.inputs) ++ cs)
-          (sym (translated_same half (wires c) c.gates (λ v. v) (qubit_of at) (wires c) h.valid.gates same));
+          (sym (translated_same half (wires c) c.gates (λ v. v) (qubit_of at) (wires c)
+          h.valid.gates same));
       last = λ v lt. sym (last_same (wires c) c.gates (λ v. v) (qubit_of at) (wires c) same v lt);
     }
 

@@ -19,13 +19,15 @@ same_test wires at v u apart lv lu = elim (cases_eq v u) [
   | inr ne ↦ ne_eqb (at v) (at u) (λ e. ne (apart v u lv lu e)) ∙ sym (ne_eqb v u ne)
 ]
 
-counted_through : (wires next : ℕ) (at : ℕ → ℕ) (inputs : ℕ) (cs : List Command) (v : ℕ) (us : List ℕ) →
+counted_through : (wires next : ℕ) (at : ℕ → ℕ) (inputs : ℕ) (cs : List Command) (v : ℕ)
+    (us : List ℕ) →
     IsStanding wires next at inputs cs → v < wires → All (λ u. u < wires) us →
     count_by (nat_eq (at v)) (map at us) ≡ count_by (nat_eq v) us
 counted_through wires next at inputs cs v [] h lt below = refl
 counted_through wires next at inputs cs v (u ∷ us) h lt below =
     let here = same_test wires at v u h.apart lt (All-head (λ w. w < wires) u us below) in
-    let rest = counted_through wires next at inputs cs v us h lt (All-tail (λ w. w < wires) u us below) in
+    let below_us = All-tail (λ w. w < wires) u us below in
+    let rest = counted_through wires next at inputs cs v us h lt below_us in
     sum_by-cons (λ q. cond (nat_eq (at v) q) 1 0) (at u) (map at us)
     ∙ ap₂ (λ (b : Bool) (n : ℕ). cond b 1 0 + n) here rest
     ∙ sym (sum_by-cons (λ q. cond (nat_eq v q) 1 0) u us)
@@ -38,7 +40,8 @@ not_counted wires next at inputs cs q [] h gone below = refl
 not_counted wires next at inputs cs q (u ∷ us) h gone below =
     let free = h.free u (All-head (λ w. w < wires) u us below) in
     let other : q ≡ at u → ⊥ = λ e. true≢false (sym gone ∙ ap (measured cs) e ∙ free) in
-    let rest = not_counted wires next at inputs cs q us h gone (All-tail (λ w. w < wires) u us below) in
+    let below_us = All-tail (λ w. w < wires) u us below in
+    let rest = not_counted wires next at inputs cs q us h gone below_us in
     sum_by-cons (λ r. cond (nat_eq q r) 1 0) (at u) (map at us)
     ∙ ap₂ (λ (b : Bool) (n : ℕ). cond b 1 0 + n) (ne_eqb q (at u) other) rest
 
@@ -50,7 +53,8 @@ all_below wires next at inputs cs (u ∷ us) h below =
     (h.below u (All-head (λ w. w < wires) u us below))
     (all_below wires next at inputs cs us h (All-tail (λ w. w < wires) u us below))
 
-counted : (wires next : ℕ) (at : ℕ → ℕ) (inputs : ℕ) (cs : List Command) (us : List ℕ) (q : ℕ) (b : Bool) →
+counted : (wires next : ℕ) (at : ℕ → ℕ) (inputs : ℕ) (cs : List Command) (us : List ℕ)
+    (q : ℕ) (b : Bool) →
     measured cs q ≡ b → IsStanding wires next at inputs cs → ListsOnce wires (λ v. true) us →
     q < next →
     count_by (nat_eq q) (map at us) ≡ cond (not (measured cs q)) 1 0

@@ -171,7 +171,8 @@ standing_j wires next inputs at cs half v a lt h = record {
           absurd (true≢false (sym (gone ∙ here ∙ replaced_same (measured cs) (at v) true) ∙ free))
       | inr nq ↦
           let kept = replaced_other (measured cs) (at v) true q nq in
-          let old : measured cs q ≡ false = sym (measured-j cs half (at v) next a q ∙ kept) ∙ free in
+          let old : measured cs q ≡ false =
+          sym (measured-j cs half (at v) next a q ∙ kept) ∙ free in
           let w = h.others q (omega arith) old in
           let other : w.0 ≡ v → ⊥ = λ s. nq (sym w.2 ∙ ap at s) in
           (w.0, w.1, moved_other at v next w.0 other ∙ w.2)

@@ -62,8 +62,10 @@ pub(crate) fn push_gate<const H: usize>(
     gate: &Gate<H>,
 ) -> Result<(), Memory>
     requires { CanStep at.old (plain_gate gate.now) builder.old }
-    ensures added { OnOk result (builder.new ≡ with_gate H at.old (plain_gate gate.now) builder.old) }
-    ensures moved { OnOk result (at.new ≡ qubits_behind at.old (plain_gate gate.now) (length builder.old.names)) }
+    ensures added { OnOk result (builder.new ≡
+        with_gate H at.old (plain_gate gate.now) builder.old) }
+    ensures moved { OnOk result (at.new ≡
+        qubits_behind at.old (plain_gate gate.now) (length builder.old.names)) }
 {
     match *gate {
         Gate::J { wire, angle } => {

@@ -37,7 +37,8 @@ pub(crate) fn with_wires<const H: usize>(
     circuit: &Circuit<H>,
 ) -> Result<Builder<H>, Memory>
     requires { wires circuit.now ≤ 256 }
-    ensures { IfOk result (λ builder. builder ≡ begun circuit.now.names circuit.now.inputs (preparations circuit.now.inputs (wires circuit.now - circuit.now.inputs))) }
+    ensures { IfOk result (λ builder. builder ≡ begun circuit.now.names circuit.now.inputs
+        (preparations circuit.now.inputs (wires circuit.now - circuit.now.inputs))) }
 {
     let names = circuit.names();
     let inputs = circuit.inputs();

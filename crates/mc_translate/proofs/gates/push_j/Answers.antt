@@ -19,7 +19,9 @@ pub push_fitting-requires : goal.push_fitting-requires
 push_fitting-requires g c =
     let p = c.args.builder.now in
     let size = c.names.ensures.valid.qubits in
-    let fits = ent_fits p.inputs c.args.q (length p.names) p.commands c.requires.qubit size c.requires.unborn in
+    let fits =
+    ent_fits p.inputs c.args.q (length p.names) p.commands c.requires.qubit size
+    c.requires.unborn in
     let room = room_two p.commands _ c.requires.commands in
     rw (c.in_ok-next.ensures.added, c.in_ok-next.ensures.number)
     (omega arith, (omega arith, (refl, (fits, room))))
@@ -28,16 +30,32 @@ pub push_fitting-requires-2 : goal.push_fitting-requires-2
 push_fitting-requires-2 g c =
     let p = c.args.builder.now in
     let size = c.names.ensures.valid.qubits in
-    let fits = meas_fits p.inputs c.args.q (length p.names) c.neg.result p.commands c.requires.qubit size c.requires.unborn in
+    let fits =
+    meas_fits p.inputs c.args.q (length p.names) c.neg.result p.commands c.requires.qubit size
+    c.requires.unborn in
     let room = room_three p.commands _ _ c.requires.commands in
-    rw (c.in_ok-push_fitting.ensures.added, c.in_ok-next.ensures.added, c.in_ok-next.ensures.number, c.empty.ensures, c.empty-2.ensures)
+    rw (
+      c.in_ok-push_fitting.ensures.added,
+      c.in_ok-next.ensures.added,
+      c.in_ok-next.ensures.number,
+      c.empty.ensures,
+      c.empty-2.ensures,
+    )
     (omega arith, (omega arith, (refl, (fits, room))))
 
 pub push_fitting-requires-3 : goal.push_fitting-requires-3
 push_fitting-requires-3 g c =
     let p = c.args.builder.now in
     let size = c.names.ensures.valid.qubits in
-    let fits = fix_fits p.inputs c.args.q (length p.names) c.neg.result _ _ p.commands c.requires.qubit size c.requires.unborn in
+    let fits =
+    fix_fits p.inputs c.args.q (length p.names) c.neg.result _ _ p.commands c.requires.qubit size
+    c.requires.unborn in
     let room = room_four p.commands _ _ _ c.requires.commands in
-    rw (c.in_ok-push_fitting-2.ensures.added, c.in_ok-push_fitting.ensures.added, c.in_ok-next.ensures.added, c.in_ok-next.ensures.number, c.in_ok-signal_of.ensures)
+    rw (
+      c.in_ok-push_fitting-2.ensures.added,
+      c.in_ok-push_fitting.ensures.added,
+      c.in_ok-next.ensures.added,
+      c.in_ok-next.ensures.number,
+      c.in_ok-signal_of.ensures,
+    )
     (omega arith, (omega arith, (refl, (fits, room))))

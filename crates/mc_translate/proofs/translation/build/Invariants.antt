@@ -5,4 +5,5 @@ use Rattle.mc_translate.proofs.translation.build.Given as goal
 
 abbrev pub invariant-gates : goal.invariant-gates
 invariant-gates g l =
-    IsGoing g.row.H l.circuit l.at.items l.builder (map (plain_gate {h = g.row.H}) (drop l.gate-index l.gate-items))
+    IsGoing g.row.H l.circuit l.at.items l.builder
+    (map (plain_gate {h = g.row.H}) (drop l.gate-index l.gate-items))

@@ -7,4 +7,5 @@ use Rattle.mc_translate.proofs.translation.count_j.Goals as goal
 pub returns : goal.returns
 returns g c =
     let h = c.gates-test.false in
-    (rw (take_all _ _ h) at c.gates.invariant) ∙ j_count-map (plain_gate {h = g.row.H}) c.args.gates.now
+    let all = rw (take_all _ _ h) at c.gates.invariant in
+    all ∙ j_count-map (plain_gate {h = g.row.H}) c.args.gates.now

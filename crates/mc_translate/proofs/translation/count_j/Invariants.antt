@@ -4,4 +4,5 @@ use Rattle.mc_translate.specs.Qubits.{is_j}
 use Rattle.mc_translate.proofs.translation.count_j.Given as goal
 
 abbrev pub invariant-gates : goal.invariant-gates
-invariant-gates g l = l.count ≡ count_by (λ gate. is_j (plain_gate {h = g.row.H} gate)) (take l.gate-index l.gates)
+invariant-gates g l =
+    l.count ≡ count_by (λ gate. is_j (plain_gate {h = g.row.H} gate)) (take l.gate-index l.gates)
