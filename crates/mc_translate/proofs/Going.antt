@@ -91,8 +91,8 @@ going_step half c at p (J v a) rest h =
       long = length-set at v next ∙ long;
       fits = h.fits.1;
       standing =
-          rw longer
-          (standing_same (wires c) (next + 1) p.inputs (moved (qubit_of at) v next) (qubit_of at')
+          rw (longer, ← one)
+          (standing_same (wires c) (suc next) p.inputs (moved (qubit_of at) v next) (qubit_of at')
           (p.commands ++ j_commands half q next a) same
           (standing_j (wires c) next p.inputs (qubit_of at) p.commands half v a lt h.standing));
       qubits = let qubits = h.qubits in omega arith;

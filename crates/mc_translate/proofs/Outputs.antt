@@ -25,7 +25,7 @@ counted_through : (wires next : ℕ) (at : ℕ → ℕ) (inputs : ℕ) (cs : Lis
     count_by (nat_eq (at v)) (map at us) ≡ count_by (nat_eq v) us
 counted_through wires next at inputs cs v [] h lt below = refl
 counted_through wires next at inputs cs v (u ∷ us) h lt below =
-    let here = same_test wires at v u h.apart lt (All-head (λ w. w < wires) u us below) in
+    let here = same_test wires at v u h.wires_apart.apart lt (All-head (λ w. w < wires) u us below) in
     let below_us = All-tail (λ w. w < wires) u us below in
     let rest = counted_through wires next at inputs cs v us h lt below_us in
     sum_by-cons (λ q. cond (nat_eq (at v) q) 1 0) (at u) (map at us)
@@ -50,7 +50,7 @@ all_below : (wires next : ℕ) (at : ℕ → ℕ) (inputs : ℕ) (cs : List Comm
 all_below wires next at inputs cs [] h below = All-nil (λ q. q < next)
 all_below wires next at inputs cs (u ∷ us) h below =
     All-cons (λ q. q < next) (at u) (map at us)
-    (h.below u (All-head (λ w. w < wires) u us below))
+    (h.wires_apart.below u (All-head (λ w. w < wires) u us below))
     (all_below wires next at inputs cs us h (All-tail (λ w. w < wires) u us below))
 
 counted : (wires next : ℕ) (at : ℕ → ℕ) (inputs : ℕ) (cs : List Command) (us : List ℕ)

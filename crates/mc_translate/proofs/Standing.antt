@@ -10,7 +10,7 @@ use Rattle.mc_model.specs.Valid.{prepared, measured}
 use Rattle.mc_model.specs.Translation.{moved, preparations}
 use Rattle.mc_model.proofs.BitLemmas.{replaced_same, replaced_other}
 use Rattle.mc_model.proofs.ValidLemmas.{measured-append, prepared-append}
-use Rattle.mc_translate.specs.Steps.{j_commands, IsStanding}
+use Rattle.mc_translate.specs.Steps.{j_commands, StandApart, IsStanding}
 
 -- behind a preparation
 pub prepared-prep : (cs : List Command) (q : ℕ) → prepared (cs ++ (Prep q ∷ [])) ≡ prepared cs + 1
@@ -71,12 +71,60 @@ unfolding measured preparations
 measured-preparations q zero k = refl
 measured-preparations q (suc n) k = measured-preparations (suc q) n k
 
+pub moved_same : (at : ℕ → ℕ) (v r : ℕ) → moved at v r v ≡ r
+moved_same at v r = ap (λ (t : Bool). cond t r (at v)) (eq-eqb v v refl)
+
+pub moved_other : (at : ℕ → ℕ) (v r k : ℕ) → (k ≡ v → ⊥) → moved at v r k ≡ at k
+moved_other at v r k ne = ap (λ (t : Bool). cond t r (at k)) (ne_eqb k v ne)
+
+-- a moved wire has a qubit of its own
+moved_below : (wires : ℕ) (at : ℕ → ℕ) (next v : ℕ) → StandApart wires at next → (u : ℕ) →
+    u < wires → moved at v next u < suc next
+moved_below wires at next v st u lt = elim (cases_eq u v) [
+  | inl e ↦
+      let k : moved at v next u ≡ next = ap (moved at v next) e ∙ moved_same at v next in
+      omega arith
+  | inr ne ↦
+      let k = moved_other at v next u ne in
+      let b = st.below u lt in
+      omega arith
+]
+
+pub moved_apart : (wires : ℕ) (at : ℕ → ℕ) (next v : ℕ) → StandApart wires at next →
+    StandApart wires (moved at v next) (suc next)
+moved_apart wires at next v st = record {
+  below = moved_below wires at next v st;
+  apart = λ u w hu hw e. elim (cases_eq u v) [
+    | inl eu ↦ elim (cases_eq w v) [
+      | inl ew ↦ eu ∙ sym ew
+      | inr nw ↦
+          let ku : moved at v next u ≡ next = ap (moved at v next) eu ∙ moved_same at v next in
+          let kw = moved_other at v next w nw in
+          let b = st.below w hw in
+          absurd (omega arith)
+    ]
+    | inr nu ↦ elim (cases_eq w v) [
+      | inl ew ↦
+          let kw : moved at v next w ≡ next = ap (moved at v next) ew ∙ moved_same at v next in
+          let ku = moved_other at v next u nu in
+          let b = st.below u hu in
+          absurd (omega arith)
+      | inr nw ↦
+          let kw = moved_other at v next w nw in
+          let ku = moved_other at v next u nu in
+          st.apart u w hu hw (omega arith)
+    ]
+  ];
+}
+
+pub numbers_apart : (n : ℕ) → StandApart n (λ v. v) n
+numbers_apart n = record { below = λ v h. h; apart = λ v u hv hu e. e }
+
 pub standing_start : (wires inputs : ℕ) → inputs ≤ wires →
     IsStanding wires wires (λ v. v) inputs (preparations inputs (wires - inputs))
 standing_start wires inputs le = record {
   size = let size = prepared-preparations inputs (wires - inputs) in omega arith;
-  below = λ v h. h;
-  apart = λ v u hv hu e. e;
+  wires_apart = numbers_apart wires;
   free = λ v h. measured-preparations inputs (wires - inputs) v;
   unborn = λ q h. measured-preparations inputs (wires - inputs) q;
   others = λ q lt free. (q, lt, refl);
@@ -88,8 +136,10 @@ pub standing_same : (wires next inputs : ℕ) (f g : ℕ → ℕ) (cs : List Com
     IsStanding wires next g inputs cs
 standing_same wires next inputs f g cs same h = record {
   size = h.size;
-  below = λ v lt. subst (λ (q : ℕ). q < next) (same v lt) (h.below v lt);
-  apart = λ v u lv lu e. h.apart v u lv lu (same v lv ∙ e ∙ sym (same u lu));
+  wires_apart = record {
+    below = λ v lt. subst (λ (q : ℕ). q < next) (same v lt) (h.wires_apart.below v lt);
+    apart = λ v u lv lu e. h.wires_apart.apart v u lv lu (same v lv ∙ e ∙ sym (same u lu));
+  };
   free = λ v lt. ap (measured cs) (sym (same v lt)) ∙ h.free v lt;
   unborn = h.unborn;
   others = λ q lt free.
@@ -100,65 +150,32 @@ pub standing_cz : (wires next inputs : ℕ) (at : ℕ → ℕ) (cs : List Comman
     IsStanding wires next at inputs cs → IsStanding wires next at inputs (cs ++ (Ent q r ∷ []))
 standing_cz wires next inputs at cs q r h = record {
   size = let size = h.size in let more = prepared-ent cs q r in omega arith;
-  below = h.below;
-  apart = h.apart;
+  wires_apart = h.wires_apart;
   free = λ v lt. measured-ent cs q r (at v) ∙ h.free v lt;
   unborn = λ k le. measured-ent cs q r k ∙ h.unborn k le;
   others = λ k lt free. h.others k lt (sym (measured-ent cs q r k) ∙ free);
 }
 
-moved_same : (at : ℕ → ℕ) (v r : ℕ) → moved at v r v ≡ r
-moved_same at v r = ap (λ (t : Bool). cond t r (at v)) (eq-eqb v v refl)
-
-moved_other : (at : ℕ → ℕ) (v r k : ℕ) → (k ≡ v → ⊥) → moved at v r k ≡ at k
-moved_other at v r k ne = ap (λ (t : Bool). cond t r (at k)) (ne_eqb k v ne)
-
 pub standing_j : (wires next inputs : ℕ) (at : ℕ → ℕ) (cs : List Command) (half v a : ℕ) →
     v < wires → IsStanding wires next at inputs cs →
-    IsStanding wires (next + 1) (moved at v next) inputs (cs ++ j_commands half (at v) next a)
+    IsStanding wires (suc next) (moved at v next) inputs (cs ++ j_commands half (at v) next a)
 standing_j wires next inputs at cs half v a lt h = record {
   size = let size = h.size in let more = prepared-j cs half (at v) next a in omega arith;
-  below = λ u l. elim (cases_eq u v) [
-    | inl e ↦
-        let k : moved at v next u ≡ next = ap (moved at v next) e ∙ moved_same at v next in
-        omega arith
-    | inr ne ↦ let k = moved_other at v next u ne in let b = h.below u l in omega arith
-  ];
-  apart = λ u w lu lw e. elim (cases_eq u v) [
-    | inl eu ↦ elim (cases_eq w v) [
-      | inl ew ↦ eu ∙ sym ew
-      | inr nw ↦
-          let ku : moved at v next u ≡ next = ap (moved at v next) eu ∙ moved_same at v next in
-          let kw = moved_other at v next w nw in
-          let b = h.below w lw in
-          absurd (omega arith)
-    ]
-    | inr nu ↦ elim (cases_eq w v) [
-      | inl ew ↦
-          let kw : moved at v next w ≡ next = ap (moved at v next) ew ∙ moved_same at v next in
-          let ku = moved_other at v next u nu in
-          let b = h.below u lu in
-          absurd (omega arith)
-      | inr nw ↦
-          let kw = moved_other at v next w nw in
-          let ku = moved_other at v next u nu in
-          h.apart u w lu lw (omega arith)
-    ]
-  ];
+  wires_apart = moved_apart wires at next v h.wires_apart;
   free = λ u l. measured-j cs half (at v) next a (moved at v next u) ∙ elim (cases_eq u v) [
     | inl e ↦
         let k : moved at v next u ≡ next = ap (moved at v next) e ∙ moved_same at v next in
-        let b = h.below v lt in
+        let b = h.wires_apart.below v lt in
         replaced_other (measured cs) (at v) true (moved at v next u) (λ s. absurd (omega arith))
         ∙ ap (measured cs) k ∙ h.unborn next (omega arith)
     | inr ne ↦
         let k = moved_other at v next u ne in
         replaced_other (measured cs) (at v) true (moved at v next u)
-        (λ s. ne (h.apart u v l lt (sym k ∙ s)))
+        (λ s. ne (h.wires_apart.apart u v l lt (sym k ∙ s)))
         ∙ ap (measured cs) k ∙ h.free u l
   ];
   unborn = λ q le.
-      let b = h.below v lt in
+      let b = h.wires_apart.below v lt in
       measured-j cs half (at v) next a q
       ∙ replaced_other (measured cs) (at v) true q (λ s. absurd (omega arith))
       ∙ h.unborn q (omega arith);

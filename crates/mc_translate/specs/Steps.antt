@@ -34,11 +34,15 @@ abbrev pub qubits_behind : List ℕ → Gate → ℕ → List ℕ
 qubits_behind at (J v a) next = slice_set at v next
 qubits_behind at (CZ v u) next = at
 
--- distinct qubits below `next` stand for the wires, and every other qubit below it is measured
-pub record IsStanding (wires next : ℕ) (at : ℕ → ℕ) (inputs : ℕ) (cs : List Command) : Type 0 where
-  pub size : next ≡ inputs + prepared cs
+-- the qubits that stand for the wires differ, and are below the next fresh number
+pub record StandApart (wires : ℕ) (at : ℕ → ℕ) (next : ℕ) : Type 0 where
   pub below : (v : ℕ) → v < wires → at v < next
   pub apart : (v u : ℕ) → v < wires → u < wires → at v ≡ at u → v ≡ u
+
+-- moreover these, and no others of the qubits that there are, are not measured
+pub record IsStanding (wires next : ℕ) (at : ℕ → ℕ) (inputs : ℕ) (cs : List Command) : Type 0 where
+  pub size : next ≡ inputs + prepared cs
+  pub wires_apart : StandApart wires at next
   pub free : (v : ℕ) → v < wires → measured cs (at v) ≡ false
   pub unborn : (q : ℕ) → next ≤ q → measured cs q ≡ false
   pub others : (q : ℕ) → q < next → measured cs q ≡ false → (v : ℕ) × (v < wires) × (at v ≡ q)

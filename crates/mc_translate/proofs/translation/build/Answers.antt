@@ -1,4 +1,4 @@
-use Rattle.std.proofs.Common.{◌≡◌, [], List, arith, drop}
+use Rattle.std.proofs.Common.{◌≡◌, [], arith, drop}
 use Rattle.std.proofs.lemmas.List.{drop_all}
 use Rattle.mc_circuit.specs.Gates.{plain_gate}
 use Rattle.mc_pattern.proofs.Lent.{come_back}
