@@ -1,9 +1,8 @@
 -- What a builder keeps at each step, and the pattern that it gives.
-use Rattle.std.proofs.Common.{◌≡◌, ℕ, suc, ◌+◌, ◌<◌, Bool, true, false, not, List, [], ◌∷◌, ◌++◌, refl, sym, ◌∙◌, ap, arith, length, length-append, set, take, drop, replicate, None, get_or-set_same, get_or-set_other}
+use Rattle.std.proofs.Common.{◌≡◌, ℕ, suc, ◌+◌, ◌<◌, Bool, true, false, not, List, [], ◌∷◌, ◌++◌, refl, sym, ◌∙◌, ap, arith, length, length-append, set, replicate, None, get_or-set_same, get_or-set_other}
 use Rattle.std.proofs.lemmas.Bool.{eq-eqb, ne_eqb, cases_eq, cases_lt}
 use Rattle.std.proofs.lemmas.List.{get_or-replicate, get_or_past, length-replicate}
 use Rattle.std.proofs.lemmas.Option.{unwrap_or-slice_get}
-use Rattle.std.proofs.Math.Seq.{take-append_seam}
 use mathlib.Core.Path.{fun_ext}
 use mathlib.Core.Logic.{inl, inr}
 use Rattle.mc_model.specs.Bits.{Bits, replaced}
@@ -12,7 +11,8 @@ use Rattle.mc_model.specs.Pattern.{Command, Prep, Ent, Meas, FixX, FixZ, Pattern
 use Rattle.mc_model.specs.Valid.{prepared, measured}
 use Rattle.mc_model.proofs.ValidLemmas.{valid_with, prepared-append, next_measured, none_measured}
 use Rattle.mc_signal.specs.Outcomes.{bits_of}
-use Rattle.mc_pattern.specs.Rules.{is_prep, SignalsAreSets, measured_by, marked, command_rule, output_rule}
+use Rattle.mc_pattern.specs.Rules.{is_prep, measured_by, marked, command_rule, output_rule}
+use Rattle.mc_pattern.specs.Typed.{IsTyped, AllTyped}
 use Rattle.mc_pattern.specs.Patterns.{IsPattern, IsBuilt, begun, measured_count, with_outputs}
 use Rattle.mc_pattern.proofs.RuleLaws.{fits_by, lists_by}
 use Rattle.mc_pattern.proofs.Listed.{length-listed, count_either}
@@ -40,15 +40,16 @@ marks_set marks q within = fun_ext λ k.
     ]
 
 -- a builder of inputs alone
-pub built_start : (names : List Name) → AreNames names →
-    IsBuilt (begun names (length names) []) (replicate 256 false)
+pub built_start : (half : ℕ) (names : List Name) → AreNames names →
+    IsBuilt half (begun names (length names) []) (replicate 256 false)
 unfolding prepared measured
-built_start names valid = record {
+built_start half names valid = record {
   begun = record {
     names = valid;
     qubits = omega arith;
     commands = record { at = λ before c behind e. absurd (no_command before c behind e) };
     few = omega arith;
+    typed = tt;
   };
   long = refl;
   same = no_marks 256;
@@ -77,12 +78,18 @@ one_prepared : (cs : List Command) (q : ℕ) → prepared (cs ++ (Prep q ∷ [])
 unfolding prepared
 one_prepared cs q = prepared-append cs (Prep q ∷ []) ∙ omega arith
 
+typed_with : (half : ℕ) (cs : List Command) (c : Command) → AllTyped half cs → IsTyped half c →
+    AllTyped half (cs ++ (c ∷ []))
+typed_with half [] c all one = (one, tt)
+typed_with half (d ∷ cs) c all one = (all.0, typed_with half cs c all.1 one)
+
 -- one more qubit
-pub built_prep : (names : List Name) (inputs : ℕ) (cs : List Command) (marks : List Bool)
+pub built_prep : (half : ℕ) (names : List Name) (inputs : ℕ) (cs : List Command) (marks : List Bool)
     (name : Name) →
-    IsBuilt (begun names inputs cs) marks → AreNames (names ++ (name ∷ [])) → length cs < 262144 →
-    IsBuilt (begun (names ++ (name ∷ [])) inputs (cs ++ (Prep (length names) ∷ []))) marks
-built_prep names inputs cs marks name h valid room =
+    IsBuilt half (begun names inputs cs) marks → AreNames (names ++ (name ∷ [])) →
+    length cs < 262144 →
+    IsBuilt half (begun (names ++ (name ∷ [])) inputs (cs ++ (Prep (length names) ∷ []))) marks
+built_prep half names inputs cs marks name h valid room =
     let size = h.begun.qubits in
     let longer = length-append names (name ∷ []) in
     let more = one_prepared cs (length names) in
@@ -92,19 +99,20 @@ built_prep names inputs cs marks name h valid room =
         qubits = omega arith;
         commands = valid_with inputs cs (Prep (length names)) h.begun.commands size;
         few = rw (length-append cs (Prep (length names) ∷ [])) (omega arith);
+        typed = typed_with half cs (Prep (length names)) h.begun.typed tt;
       };
       long = h.long;
       same = h.same ∙ sym (measured_with cs (Prep (length names)));
     }
 
 -- one more command
-pub built_push : (names : List Name) (inputs : ℕ) (cs : List Command)
+pub built_push : (half : ℕ) (names : List Name) (inputs : ℕ) (cs : List Command)
     (marks marks' : List Bool) (c : Command) →
-    IsBuilt (begun names inputs cs) marks → is_prep c ≡ false → SignalsAreSets c →
+    IsBuilt half (begun names inputs cs) marks → is_prep c ≡ false → IsTyped half c →
     command_rule (length names) (bits_of marks) c ≡ None → length cs < 262144 →
     length marks' ≡ length marks → bits_of marks' ≡ marked (bits_of marks) (measured_by c) →
-    IsBuilt (begun names inputs (cs ++ (c ∷ []))) marks'
-built_push names inputs cs marks marks' c h no_prep sets unbroken room long same =
+    IsBuilt half (begun names inputs (cs ++ (c ∷ []))) marks'
+built_push half names inputs cs marks marks' c h no_prep typed unbroken room long same =
     let size = h.begun.qubits in
     let kept = none_prepared cs c no_prep in
     let rule : command_rule (length names) (measured cs) c ≡ None = rw (← h.same) unbroken in
@@ -114,8 +122,9 @@ built_push names inputs cs marks marks' c h no_prep sets unbroken room long same
         qubits = omega arith;
         commands =
             valid_with inputs cs c h.begun.commands
-            (fits_by inputs cs (length names) c size no_prep sets rule);
+            (fits_by half inputs cs (length names) c size no_prep typed rule);
         few = rw (length-append cs (c ∷ [])) (omega arith);
+        typed = typed_with half cs c h.begun.typed typed;
       };
       long = long ∙ h.long;
       same =
@@ -125,12 +134,12 @@ built_push names inputs cs marks marks' c h no_prep sets unbroken room long same
     }
 
 -- a pattern
-pub built_whole : (names : List Name) (inputs : ℕ) (cs : List Command) (marks : List Bool)
-    (outputs : List ℕ) →
-    IsBuilt (begun names inputs cs) marks →
+pub built_whole : (half : ℕ) (names : List Name) (inputs : ℕ) (cs : List Command)
+    (marks : List Bool) (outputs : List ℕ) →
+    IsBuilt half (begun names inputs cs) marks →
     output_rule (length names) (bits_of marks) outputs ≡ None →
-    IsPattern (with_outputs (begun names inputs cs) outputs)
-built_whole names inputs cs marks outputs h unbroken = record {
+    IsPattern half (with_outputs (begun names inputs cs) outputs)
+built_whole half names inputs cs marks outputs h unbroken = record {
   valid = record {
     names = h.begun.names;
     qubits = h.begun.qubits;
@@ -138,19 +147,14 @@ built_whole names inputs cs marks outputs h unbroken = record {
     outputs = lists_by (length names) (measured cs) outputs (rw (← h.same) unbroken);
   };
   few = h.begun.few;
+  typed = h.begun.typed;
 }
 
 -- the qubits that are no outputs are measured
-pub measured_others : (p : Pattern) → IsPattern p →
+pub measured_others : (half : ℕ) (p : Pattern) → IsPattern half p →
     length p.outputs + measured_count p ≡ length p.names
-measured_others p h =
+measured_others half p h =
     let free : ℕ → Bool = λ q. not (measured p.commands q) in
     ap (λ (n : ℕ). n + measured_count p)
     (length-listed (length p.names) free p.outputs h.valid.outputs)
     ∙ count_either (length p.names) (measured p.commands)
-
--- marks that were lent come back
-pub come_back : (marks lent : List Bool) (n : ℕ) → n ≡ length marks → length lent ≡ length marks →
-    take n (lent ++ drop (length lent) marks) ≡ lent
-come_back marks lent n size long =
-    rw (size, ← long) (take-append_seam lent (drop (length lent) marks))

@@ -8,7 +8,8 @@ use Rattle.mc_model.specs.Bits.{Bits}
 use Rattle.mc_model.specs.Numbers.{is_member, ListsOnce}
 use Rattle.mc_model.specs.Pattern.{Command, Prep, Ent, Meas, FixX, FixZ}
 use Rattle.mc_model.specs.Valid.{AllDone, IsLive, FitsBehind, measured, prepared}
-use Rattle.mc_pattern.specs.Rules.{first_rule, command_rule, output_rule, is_prep, SignalsAreSets, is_stranger, is_undone, is_twice, is_missing}
+use Rattle.mc_pattern.specs.Rules.{first_rule, command_rule, output_rule, is_prep, is_stranger, is_undone, is_twice, is_missing}
+use Rattle.mc_pattern.specs.Typed.{IsTyped}
 use Rattle.mc_pattern.proofs.Members.{any_by, none_by, fails_by, member_counts, counts_member, no_member, below_by, no_number, number_fails}
 
 -- the number of the first of four tests that holds
@@ -116,26 +117,26 @@ AllDone-right : (done : Bits) (ps qs : List ℕ) → AllDone done (ps ++ qs) →
 AllDone-right done [] qs h = h
 AllDone-right done (p ∷ ps) qs h = AllDone-right done ps qs h.1
 
-pub fits_by : (inputs : ℕ) (before : List Command) (n : ℕ) (c : Command) →
-    n ≡ inputs + prepared before → is_prep c ≡ false → SignalsAreSets c →
+pub fits_by : (half inputs : ℕ) (before : List Command) (n : ℕ) (c : Command) →
+    n ≡ inputs + prepared before → is_prep c ≡ false → IsTyped half c →
     command_rule n (measured before) c ≡ None → FitsBehind inputs before c
-fits_by inputs before n (Prep q) size no_prep sets e = absurd (cc no_prep)
-fits_by inputs before n (Ent q r) size no_prep sets e =
+fits_by half inputs before n (Prep q) size no_prep typed e = absurd (cc no_prep)
+fits_by half inputs before n (Ent q r) size no_prep typed e =
     let h = kept_by inputs before n (q ∷ r ∷ []) (nat_eq q r) [] size e in
     (h.0.0, h.0.1.0, eqb-false q r h.1)
-fits_by inputs before n (Meas q a s t) size no_prep sets e =
+fits_by half inputs before n (Meas q a s t) size no_prep typed e =
     let done = measured before in
     let h = kept_by inputs before n (q ∷ []) false (s.members ++ t.members) size e in (
       h.0.0,
-      record { is_set = sets.0; is_done = AllDone-left done s.members t.members h.2 },
-      record { is_set = sets.1; is_done = AllDone-right done s.members t.members h.2 },
+      record { is_set = typed.1.is_set; is_done = AllDone-left done s.members t.members h.2 },
+      record { is_set = typed.2.is_set; is_done = AllDone-right done s.members t.members h.2 },
     )
-fits_by inputs before n (FixX q s) size no_prep sets e =
+fits_by half inputs before n (FixX q s) size no_prep typed e =
     let h = kept_by inputs before n (q ∷ []) false s.members size e in
-    (h.0.0, record { is_set = sets; is_done = h.2 })
-fits_by inputs before n (FixZ q s) size no_prep sets e =
+    (h.0.0, record { is_set = typed.is_set; is_done = h.2 })
+fits_by half inputs before n (FixZ q s) size no_prep typed e =
     let h = kept_by inputs before n (q ∷ []) false s.members size e in
-    (h.0.0, record { is_set = sets; is_done = h.2 })
+    (h.0.0, record { is_set = typed.is_set; is_done = h.2 })
 
 pub by_fits : (inputs : ℕ) (before : List Command) (n : ℕ) (c : Command) →
     n ≡ inputs + prepared before → is_prep c ≡ false → FitsBehind inputs before c →

@@ -1,4 +1,5 @@
 pub mod Commands
+pub mod Typed
 pub mod Rules
 pub mod Patterns
 pub mod Laws

@@ -4,12 +4,14 @@ use Rattle.mc_model.specs.Names.{Name, AreNames, place_of}
 use Rattle.mc_model.specs.Numbers.{numbers_from}
 use Rattle.mc_model.specs.Pattern.{Command, Pattern}
 use Rattle.mc_model.specs.Valid.{IsValid, IsValidPattern, prepared, measured}
+use Rattle.mc_pattern.specs.Typed.{AllTyped}
 use Rattle.mc_signal.specs.Outcomes.{bits_of}
 
--- valid, and of at most 262,144 commands
-pub record IsPattern (p : Pattern) : Type 0 where
+-- valid, and of at most 262,144 commands, with angles in steps of which `half` make half a turn
+pub record IsPattern (half : ℕ) (p : Pattern) : Type 0 where
   pub valid : IsValidPattern p
   pub few : length p.commands ≤ 262144
+  pub typed : AllTyped half p.commands
 
 -- a pattern so far: without outputs
 abbrev pub begun : List Name → ℕ → List Command → Pattern
@@ -21,15 +23,16 @@ abbrev pub with_outputs : Pattern → List ℕ → Pattern
 with_outputs p qs = record p { outputs = qs }
 
 -- the same of a pattern so far, apart from its outputs
-pub record IsBegun (p : Pattern) : Type 0 where
+pub record IsBegun (half : ℕ) (p : Pattern) : Type 0 where
   pub names : AreNames p.names
   pub qubits : length p.names ≡ p.inputs + prepared p.commands
   pub commands : IsValid p.inputs p.commands
   pub few : length p.commands ≤ 262144
+  pub typed : AllTyped half p.commands
 
 -- a builder has a mark for each number below 256, and it stands at the measured qubits
-pub record IsBuilt (p : Pattern) (marks : List Bool) : Type 0 where
-  pub begun : IsBegun p
+pub record IsBuilt (half : ℕ) (p : Pattern) (marks : List Bool) : Type 0 where
+  pub begun : IsBegun half p
   pub long : length marks ≡ 256
   pub same : bits_of marks ≡ measured p.commands
 

@@ -1,8 +1,7 @@
 -- The rules that a builder tests, numbered from 1 to 8: why a command or outputs are refused.
-use Rattle.std.specs.Prelude.{ℕ, Bool, true, false, not, ◌&&◌, nat_eq, nat_lt, List, [], ◌∷◌, ◌++◌, length, count_by, Option, None, Some, if◌then◌else◌, ⊤}
+use Rattle.std.specs.Prelude.{ℕ, Bool, true, false, not, ◌&&◌, nat_eq, nat_lt, List, [], ◌∷◌, ◌++◌, length, count_by, Option, None, Some, if◌then◌else◌}
 use Rattle.std.specs.List.{list_any}
 use Rattle.mc_model.specs.Bits.{Bits, replaced}
-use Rattle.mc_model.specs.Signals.{IsRising}
 use Rattle.mc_model.specs.Numbers.{numbers_from, is_member}
 use Rattle.mc_model.specs.Pattern.{Command, Prep, Ent, Meas, FixX, FixZ, Pattern}
 use Rattle.mc_model.specs.Valid.{measured}
@@ -37,14 +36,6 @@ members_of (Ent q r) = []
 members_of (Meas q a s t) = s.members ++ t.members
 members_of (FixX q s) = s.members
 members_of (FixZ q s) = s.members
-
--- its signals are sets, in order, as every signal of the code is
-abbrev pub SignalsAreSets : Command → Type 0
-SignalsAreSets (Prep q) = ⊤
-SignalsAreSets (Ent q r) = ⊤
-SignalsAreSets (Meas q a s t) = IsRising s.members × IsRising t.members
-SignalsAreSets (FixX q s) = IsRising s.members
-SignalsAreSets (FixZ q s) = IsRising s.members
 
 -- the qubit that it measures
 abbrev pub measured_by : Command → Option ℕ

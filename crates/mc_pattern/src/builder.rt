@@ -65,7 +65,7 @@ impl<const H: usize> Model for Builder<H> {
     ghost view = { λ b. begun b.names b.inputs (map plain_command b.commands.items) };
 
     ghost invariant = { λ b.
-        IsBuilt (begun b.names b.inputs (map plain_command b.commands.items)) b.marks.items };
+        IsBuilt H (begun b.names b.inputs (map plain_command b.commands.items)) b.marks.items };
 }
 
 /// The qubit that a command measures, if it measures one.
@@ -100,6 +100,8 @@ fn mark(marks: &mut [bool], q: Option<u16>)
 }
 
 impl<const H: usize> Builder<H> {
+    ghost use Rattle.mc_pattern.specs.Patterns.{IsBegun};
+
     /// A pattern of the inputs alone.
     pub fn new(alloc: Global, inputs: Names) -> Result<Builder<H>, Memory>
         ensures { IfOk result (λ builder. builder ≡ begun inputs (length inputs) []) }
@@ -114,6 +116,14 @@ impl<const H: usize> Builder<H> {
             }),
             Err(_) => Err(Memory),
         }
+    }
+
+    /// The names of the qubits so far.
+    pub fn names(&self) -> &Names
+        ensures names { result.now ≡ self.now.names }
+        ensures valid { IsBegun H self.now }
+    {
+        &self.names
     }
 
     /// Adds a qubit and its preparation, and gives the qubit's number. Refusals come in the order of `PushEnd`, and leave the
@@ -134,7 +144,7 @@ impl<const H: usize> Builder<H> {
             ((place_of self.old.names name ≡ None) × (length self.old.names < 256)
             × (length self.old.commands ≡ 262_144)) }
         ensures no_rule { (n : ℕ) → result ≡ Err (PushEnd.Rule n) → ⊥ }
-        ensures memory_last { result ≡ Err PushEnd.Memory → IsFree self.old name }
+        ensures memory_last { IfErr result (λ end. (end ≡ PushEnd.Memory) ↔ IsFree self.old name) }
         ensures err { OnErr result (self.new ≡ self.old) }
     {
         if let Some(q) = self.names.find(&name) {
@@ -153,7 +163,7 @@ impl<const H: usize> Builder<H> {
         };
         match self.names.add(name) {
             Ok(number) => {
-                // the proof needs that these are names
+                // the proof needs that the names are distinct
                 let _count = self.names.len();
                 Ok(number)
             }
@@ -181,9 +191,9 @@ impl<const H: usize> Builder<H> {
             × (length self.old.commands ≡ 262_144)) }
         ensures no_twice { (q : ℕ) → result ≡ Err (PushEnd.Twice q) → ⊥ }
         ensures no_full { result ≡ Err PushEnd.Full → ⊥ }
-        ensures memory_last { result ≡ Err PushEnd.Memory →
-            (broken_rule self.old (plain_command command.entry) ≡ None)
-            × (length self.old.commands < 262_144) }
+        ensures memory_last { IfErr result (λ end. (end ≡ PushEnd.Memory) ↔
+            ((broken_rule self.old (plain_command command.entry) ≡ None)
+            × (length self.old.commands < 262_144))) }
         ensures err { OnErr result (self.new ≡ self.old) }
     {
         if let Some(rule) = rule_of(self.names.len(), self.marks.as_slice(), &command) {

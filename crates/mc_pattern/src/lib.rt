@@ -6,6 +6,7 @@
 mod builder;
 mod change;
 mod command;
+mod fitting;
 mod laws;
 mod outputs;
 mod pattern;

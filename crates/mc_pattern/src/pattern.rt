@@ -30,7 +30,7 @@ impl<const H: usize> Model for Pattern<H> {
     ghost view = { λ p.
         with_outputs (begun p.names p.inputs (map plain_command p.commands.items)) p.outs.items };
 
-    ghost invariant = { λ p. IsPattern
+    ghost invariant = { λ p. IsPattern H
         (with_outputs (begun p.names p.inputs (map plain_command p.commands.items)) p.outs.items) };
 }
 
@@ -40,7 +40,7 @@ impl<const H: usize> Pattern<H> {
     /// The names of the qubits.
     pub fn names(&self) -> &Names
         ensures names { result.now ≡ self.now.names }
-        ensures valid { IsPattern self.now }
+        ensures valid { IsPattern H self.now }
     {
         &self.names
     }

@@ -1,13 +1,15 @@
 -- The amplitudes after a translated list of gates are those after the gates.
 use Rattle.std.proofs.Common.{◌≡◌, ℕ, zero, suc, ◌+◌, ◌<◌, Bool, true, false, cond, ◌&&◌, ◌-◌, map, List, [], ◌∷◌, not, refl, sym, ◌∙◌, ap, ap₂, arith}
-use Rattle.std.proofs.lemmas.Bool.{eq-eqb, ne_eqb, cases_eq}
+use Rattle.std.proofs.lemmas.Bool.{cases_eq}
 use mathlib.Core.Logic.{inl, inr}
 use Rattle.mc_model.specs.Phase.{PhaseOps, PhaseLaws, turn, sign, negated, measured_angle}
 use Rattle.mc_model.specs.Bits.{◌⊻◌, Bits, replaced, parity}
 use Rattle.mc_model.specs.Signals.{value, no_signal, signal_of}
-use Rattle.mc_model.specs.Pattern.{Prep, Ent, Meas, FixX, Gate, J, CZ, Circuit, wires}
+use Rattle.mc_model.specs.Pattern.{Command, Prep, Ent, Meas, FixX, Gate, J, CZ, Circuit, wires}
 use Rattle.mc_model.specs.Amplitude.{Amps, act, after, act_gate, after_gates, start, agrees, placed, amp, branch_map, circuit_table}
 use Rattle.mc_model.specs.Translation.{moved, translated, last_qubits, preparations, translation}
+use Rattle.mc_translate.specs.Steps.{StandApart}
+use Rattle.mc_translate.proofs.Standing.{moved_same, moved_other, moved_apart, numbers_apart}
 use Rattle.mc_model.specs.Valid.{GatesFit, IsValidCircuit}
 use Rattle.mc_model.proofs.AmplitudeLemmas.{after-append, after-preparations}
 use Rattle.std.specs.List.{AllByRecursion}
@@ -15,54 +17,9 @@ use Rattle.std.proofs.lemmas.List.Elements.{recursion_from_All}
 use Rattle.mc_model.proofs.PhaseLemmas.{turn_back_twice, sign-twice, sign-turn}
 use Rattle.mc_model.proofs.BitLemmas.{replaced_same, replaced_other, xor_false, xor_again}
 
--- the qubits that stand for the wires differ, and are below the next fresh number
-pub record StandApart (wires : ℕ) (at : ℕ → ℕ) (next : ℕ) : Type 0 where
-  pub below : (v : ℕ) → v < wires → at v < next
-  pub apart : (v u : ℕ) → v < wires → u < wires → at v ≡ at u → v ≡ u
-
 -- the amplitudes `f` of qubits are those `g` of wires, where qubit `at v` stands for wire `v`
 pub record SameThrough {E : Type 0} (wires : ℕ) (at : ℕ → ℕ) (f g : Amps E) : Type 0 where
   pub same : (x y : Bits) → ((v : ℕ) → v < wires → x (at v) ≡ y v) → f x ≡ g y
-
-moved_same : (at : ℕ → ℕ) (v r : ℕ) → moved at v r v ≡ r
-moved_same at v r = ap (λ (t : Bool). cond t r (at v)) (eq-eqb v v refl)
-
-moved_other : (at : ℕ → ℕ) (v r k : ℕ) → (k ≡ v → ⊥) → moved at v r k ≡ at k
-moved_other at v r k ne = ap (λ (t : Bool). cond t r (at k)) (ne_eqb k v ne)
-
-moved_apart : (wires : ℕ) (at : ℕ → ℕ) (next v : ℕ) → StandApart wires at next → v < wires →
-    StandApart wires (moved at v next) (suc next)
-moved_apart wires at next v st lt = record {
-  below = λ u h. elim (cases_eq u v) [
-    | inl e ↦ let k : moved at v next u ≡ next = ap (moved at v next) e
-        ∙ moved_same at v next in omega arith
-    | inr ne ↦ let k = moved_other at v next u ne in let b = st.below u h in omega arith
-  ];
-  apart = λ u w hu hw e. elim (cases_eq u v) [
-    | inl eu ↦ elim (cases_eq w v) [
-      | inl ew ↦ eu ∙ sym ew
-      | inr nw ↦
-          let ku : moved at v next u ≡ next = ap (moved at v next) eu ∙ moved_same at v next in
-          let kw = moved_other at v next w nw in
-          let b = st.below w hw in
-          absurd (omega arith)
-    ]
-    | inr nu ↦ elim (cases_eq w v) [
-      | inl ew ↦
-          let kw : moved at v next w ≡ next = ap (moved at v next) ew ∙ moved_same at v next in
-          let ku = moved_other at v next u nu in
-          let b = st.below u hu in
-          absurd (omega arith)
-      | inr nw ↦
-          let kw = moved_other at v next w nw in
-          let ku = moved_other at v next u nu in
-          st.apart u w hu hw (omega arith)
-    ]
-  ];
-}
-
-numbers_apart : (n : ℕ) → StandApart n (λ v. v) n
-numbers_apart n = record { below = λ v h. h; apart = λ v u hv hu e. e }
 
 last_apart : (wires : ℕ) (gs : List Gate) (at : ℕ → ℕ) (next : ℕ) → GatesFit wires gs →
     StandApart wires at next →
@@ -70,7 +27,7 @@ last_apart : (wires : ℕ) (gs : List Gate) (at : ℕ → ℕ) (next : ℕ) → 
 unfolding last_qubits
 last_apart wires [] at next fit st = (next, st)
 last_apart wires (J v a ∷ gs) at next fit st =
-    last_apart wires gs (moved at v next) (suc next) fit.1 (moved_apart wires at next v st fit.0)
+    last_apart wires gs (moved at v next) (suc next) fit.1 (moved_apart wires at next v st)
 last_apart wires (CZ v u ∷ gs) at next fit st = last_apart wires gs at next fit.3 st
 
 placed_through : (wires : ℕ) (at : ℕ → ℕ) {n : ℕ} → StandApart wires at n →
@@ -80,18 +37,20 @@ unfolding placed
 placed_through wires at st [] ys fit v h = refl
 placed_through wires at st (q ∷ qs) [] fit v h = refl
 placed_through wires at st (q ∷ qs) (y ∷ ys) fit v h = elim (cases_eq v q) [
-  | inl e ↦ ap (λ (w : ℕ). replaced (placed (map at qs) ys) (at q) y (at w)) e
+  | inl e ↦
+      ap (λ (w : ℕ). replaced (placed (map at qs) ys) (at q) y (at w)) e
       ∙ replaced_same (placed (map at qs) ys) (at q) y
       ∙ sym (replaced_same (placed qs ys) q y) ∙ ap (replaced (placed qs ys) q y) (sym e)
-  | inr ne ↦ replaced_other (placed (map at qs) ys) (at q) y (at v)
-      (λ e. ne (st.apart v q h fit.0 e))
+  | inr ne ↦
+      replaced_other (placed (map at qs) ys) (at q) y (at v) (λ e. ne (st.apart v q h fit.0 e))
       ∙ placed_through wires at st qs ys fit.1 v h ∙ sym (replaced_other (placed qs ys) q y v ne)
 ]
 
 agrees_same : (b x y : Bits) (n : ℕ) → ((v : ℕ) → v < n → x v ≡ y v) → agrees n b x ≡ agrees n b y
 agrees_same b x y zero agree = refl
 agrees_same b x y (suc n) agree =
-    ap₂ (λ (s t : Bool). not (b n ⊻ s) && t) (agree n (omega arith))
+    ap₂ (λ (s t : Bool). not (b n ⊻ s) && t)
+    (agree n (omega arith))
     (agrees_same b x y n (λ v h. agree v (omega arith)))
 
 module _ {E : Type 0} (ops : PhaseOps E) (laws : PhaseLaws ops) where
@@ -116,14 +75,13 @@ module _ {E : Type 0} (ops : PhaseOps E) (laws : PhaseLaws ops) where
         sign-turn ops laws u a f1,
       )
 
-  -- entangling `q` with `r` and measuring `q` at `-a`, then the correction of `r`: what is left is
-  -- the gate
+  -- entangling `q` with `r`, measuring `q` at `-a` and correcting `r`: what is left is the gate
   j_step : (o x : Bits) (f : Amps E) (q r a : ℕ) → (q ≡ r → ⊥) →
       act ops o (FixX r (signal_of q))
       (act ops o (Meas q (negated ops.half a) no_signal no_signal) (act ops o (Ent q r) f)) x
       ≡ ops.add (f (replaced (replaced x r (x r ⊻ value (signal_of q) o)) q false))
-      (sign ops (x r) (turn ops a
-      (f (replaced (replaced x r (x r ⊻ value (signal_of q) o)) q true))))
+      (sign ops (x r)
+      (turn ops a (f (replaced (replaced x r (x r ⊻ value (signal_of q) o)) q true))))
   unfolding act parity value
   j_step o x f q r a ne =
       let z : Bits = replaced x r (x r ⊻ value (signal_of q) o) in
@@ -149,15 +107,19 @@ module _ {E : Type 0} (ops : PhaseOps E) (laws : PhaseLaws ops) where
         let there : (t : Bool) (u : ℕ) → u < wires →
         replaced z q t (at u) ≡ replaced y v t u = λ t u h.
         elim (cases_eq u v) [
-          | inl e ↦ ap (λ (w : ℕ). replaced z q t (at w)) e ∙ replaced_same z q t
-              ∙ sym (replaced_same y v t) ∙ ap (replaced y v t) (sym e)
+          | inl e ↦
+              ap (λ (w : ℕ). replaced z q t (at w)) e
+              ∙ replaced_same z q t
+              ∙ sym (replaced_same y v t)
+              ∙ ap (replaced y v t) (sym e)
           | inr nu ↦
               let bu = st.below u h in
               let apart : at u ≡ at v → ⊥ = λ e. nu (st.apart u v h lt e) in
               let old : at u ≡ next → ⊥ = omega arith in
               replaced_other z q t (at u) apart
               ∙ replaced_other x next (x next ⊻ value (signal_of q) o) (at u) old
-              ∙ ap x (sym (moved_other at v next u nu)) ∙ agree u h
+              ∙ ap x (sym (moved_other at v next u nu))
+              ∙ agree u h
               ∙ sym (replaced_other y v t u nu)
         ] in
         j_step o x f q next a ne
@@ -172,7 +134,8 @@ module _ {E : Type 0} (ops : PhaseOps E) (laws : PhaseLaws ops) where
   cz_keeps o wires at v u f g lv lu s = record {
     same = λ x y agree.
         ap₂ (λ (t : Bool) (w : E). sign ops t w)
-        (ap₂ (λ (a b : Bool). a && b) (agree v lv) (agree u lu)) (s.same x y agree);
+        (ap₂ (λ (a b : Bool). a && b) (agree v lv) (agree u lu))
+        (s.same x y agree);
   }
 
   pub translated_keeps : (o : Bits) (wires : ℕ) (gs : List Gate) (at : ℕ → ℕ) (next : ℕ)
@@ -184,7 +147,7 @@ module _ {E : Type 0} (ops : PhaseOps E) (laws : PhaseLaws ops) where
   translated_keeps o wires [] at next f g fit st s = s
   translated_keeps o wires (J v a ∷ gs) at next f g fit st s =
       translated_keeps o wires gs (moved at v next) (suc next) _ _ fit.1
-      (moved_apart wires at next v st fit.0)
+      (moved_apart wires at next v st)
       (j_keeps o wires next at v a f g fit.0 st s)
   translated_keeps o wires (CZ v u ∷ gs) at next f g fit st s =
       translated_keeps o wires gs at next _ _ fit.3 st (cz_keeps o wires at v u f g fit.0 fit.1 s)
@@ -200,21 +163,20 @@ module _ {E : Type 0} (ops : PhaseOps E) (laws : PhaseLaws ops) where
       branch_map ops (translation ops.half c) o y b ≡ circuit_table ops c y b
   unfolding branch_map circuit_table amp translation
   translation_keeps_table c fits o y b =
-      let prepared : Amps E =
-      after ops o (preparations c.inputs ((wires c) - c.inputs)) (start ops c.inputs b) in
-      let begun : SameThrough (wires c) (λ v. v) prepared (start ops c.inputs b) = record {
+      let n : ℕ = wires c in
+      let preps : List Command = preparations c.inputs (n - c.inputs) in
+      let last : ℕ → ℕ = last_qubits c.gates (λ v. v) n in
+      let first : Amps E = start ops c.inputs b in
+      let prepared : Amps E = after ops o preps first in
+      let begun : SameThrough n (λ v. v) prepared first = record {
         same = λ x z agree.
-            ap (λ (f : Amps E). f x)
-            (after-preparations ops laws o c.inputs ((wires c) - c.inputs)
-            (start ops c.inputs b))
+            ap (λ (f : Amps E). f x) (after-preparations ops laws o c.inputs (n - c.inputs) first)
             ∙ start_same b x z c.inputs (λ v h. agree v (let k = fits.inputs in omega arith));
       } in
-      let ended = translated_keeps o (wires c) c.gates (λ v. v) (wires c) prepared
-      (start ops c.inputs b) fits.gates (numbers_apart (wires c)) begun in
-      ap (λ (f : Amps E). f (placed (map (last_qubits c.gates (λ v. v) (wires c)) c.outputs) y))
-      (after-append ops laws o (preparations c.inputs ((wires c) - c.inputs))
-      (translated ops.half c.gates (λ v. v) (wires c)) (start ops c.inputs b))
-      ∙ ended.same _ _
-      (placed_through (wires c) _
-      (last_apart (wires c) c.gates (λ v. v) (wires c) fits.gates (numbers_apart (wires c))).1
-      c.outputs y (recursion_from_All (λ (q : ℕ). q < wires c) c.outputs fits.outputs.below))
+      let ended =
+      translated_keeps o n c.gates (λ v. v) n prepared first fits.gates (numbers_apart n) begun in
+      let apart = (last_apart n c.gates (λ v. v) n fits.gates (numbers_apart n)).1 in
+      let below = recursion_from_All (λ (q : ℕ). q < n) c.outputs fits.outputs.below in
+      ap (λ (f : Amps E). f (placed (map last c.outputs) y))
+      (after-append ops laws o preps (translated ops.half c.gates (λ v. v) n) first)
+      ∙ ended.same _ _ (placed_through n _ apart c.outputs y below)

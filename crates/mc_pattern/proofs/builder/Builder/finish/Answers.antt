@@ -10,5 +10,5 @@ invariant_of-result g c =
     let rule = output_rule c.len.result (bits_of c.as_slice.result.now) c.args.outputs.now in
     let unbroken = sym {b = rule} c.in_default.ensures in
     rw outs
-    (built_whole _ _ _ _ _ c.self.invariant
+    (built_whole _ _ _ _ _ _ c.self.invariant
     (rw (c.len.ensures.len, c.as_slice.ensures.value) at unbroken))

@@ -9,6 +9,6 @@ invariant_of-self-in-Ok-add g c =
     let room = c.if-count-ge-MOST_COMMANDS.false in
     let count = c.len-count.ensures in
     rw (c.in-Ok-add.ensures.added, c.in-Ok.ensures.ok, map-append, c.len-number.ensures.len)
-    (built_prep _ _ _ _ _ c.self.invariant
+    (built_prep _ _ _ _ _ _ c.self.invariant
     (rw c.in-Ok-add.ensures.added at valid)
     (rw length-map (omega arith)))

@@ -1,6 +1,7 @@
 use Rattle.std.proofs.Common.{sym, arith}
 use Rattle.std.proofs.lemmas.List.{map-append, length-map}
-use Rattle.mc_pattern.proofs.Built.{built_push, come_back}
+use Rattle.mc_pattern.proofs.Built.{built_push}
+use Rattle.mc_pattern.proofs.Lent.{come_back}
 use Rattle.mc_pattern.proofs.builder.Builder.push.Goals as goal
 
 pub invariant_of-self-2 : goal.invariant_of-self-2
@@ -14,7 +15,7 @@ invariant_of-self-2 g c =
     let long = c.self.inside.marks.ok.0 in
     let back = come_back c.self.inside.marks.items c.mark.new.marks _ long (rw marks at lent) in
     rw (c.in-Ok.ensures.ok, map-append, back)
-    (built_push _ _ _ _ _ _ c.self.invariant c.requires c.in_default.ensures.sets
+    (built_push _ _ _ _ _ _ _ c.self.invariant c.requires c.in_default.ensures.typed
     (rw (c.len.ensures.len, c.as_slice.ensures.value) at unbroken)
     (rw length-map (omega arith))
     (rw marks at lent)

@@ -1,0 +1,61 @@
+use Rattle.std.proofs.Common.{refl, arith, length}
+use Rattle.mc_translate.proofs.FreeNames.{free_place}
+use Rattle.mc_translate.proofs.Fits.{ent_fits, meas_fits, fix_fits, room_two, room_three, room_four}
+use Rattle.mc_translate.proofs.gates.push_j.Goals as goal
+
+pub prep_free-requires : goal.prep_free-requires
+prep_free-requires g c =
+    let held = c.fresh-name.ensures.fresh.3 in
+    let p = c.args.builder.now in (
+      omega arith,
+      record {
+        new = free_place p.names c.fresh-name.result (rw c.names.ensures.names at held);
+        few = c.requires.names;
+        room = omega arith;
+      },
+    )
+
+pub push_fitting-requires : goal.push_fitting-requires
+push_fitting-requires g c =
+    let p = c.args.builder.now in
+    let size = c.names.ensures.valid.qubits in
+    let fits =
+    ent_fits p.inputs c.args.q (length p.names) p.commands c.requires.qubit size
+    c.requires.unborn in
+    let room = room_two p.commands _ c.requires.commands in
+    rw (c.in_ok-next.ensures.added, c.in_ok-next.ensures.number)
+    (omega arith, (omega arith, (refl, (fits, room))))
+
+pub push_fitting-requires-2 : goal.push_fitting-requires-2
+push_fitting-requires-2 g c =
+    let p = c.args.builder.now in
+    let size = c.names.ensures.valid.qubits in
+    let fits =
+    meas_fits p.inputs c.args.q (length p.names) c.neg.result p.commands c.requires.qubit size
+    c.requires.unborn in
+    let room = room_three p.commands _ _ c.requires.commands in
+    rw (
+      c.in_ok-push_fitting.ensures.added,
+      c.in_ok-next.ensures.added,
+      c.in_ok-next.ensures.number,
+      c.empty.ensures,
+      c.empty-2.ensures,
+    )
+    (omega arith, (omega arith, (refl, (fits, room))))
+
+pub push_fitting-requires-3 : goal.push_fitting-requires-3
+push_fitting-requires-3 g c =
+    let p = c.args.builder.now in
+    let size = c.names.ensures.valid.qubits in
+    let fits =
+    fix_fits p.inputs c.args.q (length p.names) c.neg.result _ _ p.commands c.requires.qubit size
+    c.requires.unborn in
+    let room = room_four p.commands _ _ _ c.requires.commands in
+    rw (
+      c.in_ok-push_fitting-2.ensures.added,
+      c.in_ok-push_fitting.ensures.added,
+      c.in_ok-next.ensures.added,
+      c.in_ok-next.ensures.number,
+      c.in_ok-signal_of.ensures,
+    )
+    (omega arith, (omega arith, (refl, (fits, room))))
