@@ -6,3 +6,5 @@ pub mod Numbers
 pub mod Kept
 pub mod Listed
 pub mod Sections
+pub mod Written
+pub mod Clean
