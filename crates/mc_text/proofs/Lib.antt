@@ -8,3 +8,4 @@ pub mod Listed
 pub mod Sections
 pub mod Written
 pub mod Clean
+pub mod Naming
