@@ -6,3 +6,4 @@ pub mod Keeping
 pub mod KeepingWord
 pub mod KeepingLine
 pub mod Spelling
+pub mod CleanLines

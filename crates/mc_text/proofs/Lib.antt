@@ -6,3 +6,6 @@ pub mod Numbers
 pub mod Kept
 pub mod Listed
 pub mod Sections
+pub mod Written
+pub mod Clean
+pub mod Naming
