@@ -90,7 +90,7 @@ define_words before h done (w ∷ ws) defines names distinct few =
     )
 
 -- record words behind which gates may stand
-takes_gates : Option Head → Bool
+unfoldable pub takes_gates : Option Head → Bool
 takes_gates (Some In) = true
 takes_gates (Some Plus) = true
 takes_gates (Some J) = true
@@ -112,11 +112,11 @@ follow (Some Cz) e = record { j = refl; cz = refl; out = refl }
 follow (Some _) e = absurd (cc e)
 
 -- the names are defined, and so many gates may come
-record IsOpen (names : List Name) (before : Lines) (n : ℕ) : Type 0 where
-  defined : names_at is_defining before [] ≡ names
-  none : names_at is_output before [] ≡ []
-  takes : takes_gates (last_head before) ≡ true
-  room : length (spelled_gates before) + n ≤ 32768
+pub record IsOpen (names : List Name) (before : Lines) (n : ℕ) : Type 0 where
+  pub defined : names_at is_defining before [] ≡ names
+  pub none : names_at is_output before [] ≡ []
+  pub takes : takes_gates (last_head before) ≡ true
+  pub room : length (spelled_gates before) + n ≤ 32768
 
 next_open : (names : List Name) (before : Lines) (here : Words) (n m : ℕ) → IsOpen names before n
     → names_at is_defining before here ≡ names_at is_defining before []
@@ -162,12 +162,12 @@ gate_clean half names before n (CZ v u) h valid permitted fit angles =
       (rw (h.defined, second, there, apart) refl, refl),
     ))
 
-first_fits : (wires : ℕ) (g : Gate) (gs : List Gate) → GatesFit wires (g ∷ gs)
+pub first_fits : (wires : ℕ) (g : Gate) (gs : List Gate) → GatesFit wires (g ∷ gs)
     → GatesFit wires (g ∷ []) × GatesFit wires gs
 first_fits wires (plain.J v a) gs h = ((h.0, tt), h.1)
 first_fits wires (CZ v u) gs h = ((h.0, h.1, h.2, tt), h.3)
 
-first_angles : (half : ℕ) (g : Gate) (gs : List Gate) → AnglesFit half (g ∷ gs)
+pub first_angles : (half : ℕ) (g : Gate) (gs : List Gate) → AnglesFit half (g ∷ gs)
     → AnglesFit half (g ∷ []) × AnglesFit half gs
 first_angles half (plain.J v a) gs h = ((h.0, tt), h.1)
 first_angles half (CZ v u) gs h = (tt, h)
@@ -184,7 +184,7 @@ gate_no_end : (names : List Name) (g : Gate) → is_end (head_in (gate_line name
 gate_no_end names (plain.J v a) = refl
 gate_no_end names (CZ v u) = refl
 
-gates_clean : (half : ℕ) (names : List Name) (before : Lines) (gs : List Gate) (tail : Lines)
+pub gates_clean : (half : ℕ) (names : List Name) (before : Lines) (gs : List Gate) (tail : Lines)
     → IsOpen names before (length gs) → AreNames names → IsTrue (is_permitted half)
     → GatesFit (length names) gs → AnglesFit half gs
     → ((before' : Lines) → IsOpen names before' 0 → Clean circuit_rules before' tail)
@@ -214,7 +214,7 @@ count_front q done qs once =
     let same : cond (nat_eq q q) 1 0 ≡ one = rw (eq-eqb q q refl) refl in
     omega (arith, both, here, same, once)
 
-outputs_clean : (names : List Name) (before : Lines) (done qs : List ℕ)
+pub outputs_clean : (names : List Name) (before : Lines) (done qs : List ℕ)
     → IsOpen names before 0 → AreNames names → All (λ q. q < length names) (done ++ qs)
     → ((q : ℕ) → q < length names → count_by (nat_eq q) (done ++ qs) ≡ 1)
     → CleanWords circuit_rules before (codes "out" ∷ map (name_at names) done)
@@ -256,3 +256,9 @@ outputs_clean names before done (q ∷ qs) h valid below once =
         held, free) refl,
       rw (map-append (name_at names) done (q ∷ [])) at rest,
     )
+
+pub outputs_begin : (names : List Name) (before : Lines) → IsOpen names before 0
+    → circuit_rules.judge before [] (codes "out") ≡ None
+outputs_begin names before h =
+    let follows = (follow (last_head before) h.takes).out in
+    rw follows refl

@@ -7,3 +7,4 @@ pub mod KeepingWord
 pub mod KeepingLine
 pub mod Spelling
 pub mod CleanLines
+pub mod ReadBack

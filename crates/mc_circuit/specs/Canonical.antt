@@ -1,6 +1,7 @@
 -- The canonical text of a circuit.
 use Rattle.std.specs.Prelude.{ℕ, List, [], ◌∷◌, ◌++◌, map, codes, take, drop}
 use Rattle.std.specs.Fmt.{decimal}
+use Rattle.mc_lex.specs.Lines as lex
 use Rattle.mc_write.specs.Text.{Line, text_of}
 use Rattle.mc_write.specs.Named.{name_at}
 use Rattle.mc_model.specs.Names.{Name}
@@ -23,5 +24,10 @@ circuit_lines c =
     ++ (map (gate_line c.names) c.gates
     ++ (codes "out" ∷ map (name_at c.names) c.outputs) ∷ (codes "end" ∷ []) ∷ []))
 
+-- the text, with its header
 abbrev pub circuit_text : Circuit → List ℕ
 circuit_text c = text_of ((codes "circuit" ∷ codes "1" ∷ []) ∷ circuit_lines c)
+
+-- the lines of a text behind its header
+abbrev pub behind_header : List ℕ → List lex.Line
+behind_header text = drop 1 (lex.lines_of text)

@@ -54,6 +54,12 @@ fn read(rt: &impl Abort, alloc: Global, text: &str) -> Result<Circuit<4>, TextEn
 }
 
 #[test]
+fn laws_hold_for_eighths() {
+    canonical_texts_are_read::<4>();
+    canonical_texts_differ::<4>();
+}
+
+#[test]
 fn reads_and_prints(rt: HostRuntime) -> Result<(), Fail> {
     let text = "circuit 1 \r\n\tin a# one input\nplus b\n\nj a -0001\ncz  b a\nout b a\nend";
     let circuit = read(&rt, rt.alloc(), text).ok().expect(&rt, "a circuit");

@@ -4,7 +4,7 @@ use Rattle.std.specs.List.{list_all}
 use Rattle.mc_lex.specs.Lines.{Item, word, Line, lines_of}
 use Rattle.mc_write.specs.Text.{text_of}
 use Rattle.mc_text.specs.Heads.{head_in, is_end}
-use Rattle.mc_text.specs.Judged.{Words, Lines, Place, Rules, words_of, first_in_line, first_in_section, section_lines}
+use Rattle.mc_text.specs.Judged.{Words, Lines, Place, Rules, words_of, first_in_line, first_in_section, section_lines, behind_section}
 use Rattle.mc_text.proofs.Written.{is_written_line, items_behind, placed_items, placed_lines, lines_of-text}
 
 -- nothing is against the rest of a line, behind the lines and the words before
@@ -66,9 +66,14 @@ unfolding placed_items placed_lines
 placed-cons line [] lines all = absurd (cc all)
 placed-cons line (w ∷ ws) lines all = (_, refl)
 
+placed_none : (line : ℕ) → placed_lines line [] ≡ []
+unfolding placed_lines
+placed_none line = refl
+
 pub record IsRead (rules : Rules) (before lines : Lines) (placed : List Line) (end : Place) : Type 0 where
   pub clean : first_in_section rules before placed end ≡ None
   pub same : section_lines placed ≡ lines
+  pub whole : behind_section placed ≡ []
 
 clean_lines : (rules : Rules) (before lines : Lines) (line : ℕ) (end : Place)
     → list_all is_written_line lines ≡ true → Clean rules before lines
@@ -78,7 +83,11 @@ clean_lines rules _ _ line end all (last before words clean ends) =
     let place = placed-cons line words [] both.0 in
     let first = clean_line rules before words line place.0 clean in
     let same = words_placed line words in
-    rw place.1 (record { clean = rw (first, same, ends) refl; same = rw (same, ends) refl })
+    rw place.1 (record {
+      clean = rw (first, same, ends) refl;
+      same = rw (same, ends) refl;
+      whole = rw (same, ends) (placed_none (line + 1));
+    })
 clean_lines rules _ _ line end all (more before words lines clean goes rest) =
     let both = and_both (is_written_line words) (list_all is_written_line lines) all in
     let place = placed-cons line words lines both.0 in
@@ -88,6 +97,7 @@ clean_lines rules _ _ line end all (more before words lines clean goes rest) =
     rw place.1 (record {
       clean = rw (first, same, goes) later.clean;
       same = rw (same, goes, later.same) refl;
+      whole = rw (same, goes) later.whole;
     })
 
 -- the lines of a section that was written behind its header

@@ -1,0 +1,26 @@
+//! What the canonical texts of circuits are, each law on the contract of a function that does nothing.
+
+ghost use Rattle.std.specs.Prelude.{◌≡◌, [], None, IsTrue};
+ghost use Rattle.mc_lex.specs.Lines.{end_of};
+ghost use Rattle.mc_model.specs.Pattern.{Circuit};
+ghost use Rattle.mc_model.specs.Steps.{is_permitted};
+ghost use Rattle.mc_text.specs.Judged.{first_in_section, section_lines, behind_section};
+ghost use Rattle.mc_circuit.specs.Circuits.{IsCircuit};
+ghost use Rattle.mc_circuit.specs.Judge.{circuit_rules};
+ghost use Rattle.mc_circuit.specs.Value.{circuit_of};
+ghost use Rattle.mc_circuit.specs.Canonical.{circuit_text, behind_header};
+
+/// Reading takes the whole canonical text of a circuit and gives the circuit back.
+pub fn canonical_texts_are_read<const H: usize>()
+    requires { IsTrue (is_permitted H) }
+    ensures clean { (c : Circuit) → IsCircuit H c
+        → first_in_section circuit_rules [] (behind_header (circuit_text c)) (end_of (circuit_text c)) ≡ None }
+    ensures whole { (c : Circuit) → IsCircuit H c → behind_section (behind_header (circuit_text c)) ≡ [] }
+    ensures same { (c : Circuit) → IsCircuit H c → circuit_of H (section_lines (behind_header (circuit_text c))) ≡ c }
+{}
+
+/// Two circuits have two canonical texts.
+pub fn canonical_texts_differ<const H: usize>()
+    requires { IsTrue (is_permitted H) }
+    ensures { (c d : Circuit) → IsCircuit H c → IsCircuit H d → circuit_text c ≡ circuit_text d → c ≡ d }
+{}
