@@ -76,17 +76,16 @@ define_words before h done (w ∷ ws) defines names distinct few =
     let is = defining_role (head_of h) (point_of before (h ∷ done)).count defines in
     let both = and_both (is_name w) (list_all is_name ws) names in
     let grouped : earlier ++ (done ++ w ∷ ws) ≡ (earlier ++ done) ++ w ∷ ws =
-        sym (append_assoc earlier done (w ∷ ws)) in
+    sym (append_assoc earlier done (w ∷ ws)) in
     let free = distinct_front (earlier ++ done) w ws (rw (← grouped) distinct) in
     let len = length-append (earlier ++ done) (w ∷ ws) in
     let few' : length ((earlier ++ done) ++ w ∷ ws) ≤ 256 = rw (← grouped) few in
     let room : nat_le 256 (length (earlier ++ done)) ≡ false = grind (arith, nat_tests) in
     let here = names_here is_defining before h done in
-    let next : (done ++ w ∷ []) ++ ws ≡ done ++ (w ∷ ws) = append_assoc done (w ∷ []) ws in
-    (
+    let next : (done ++ w ∷ []) ++ ws ≡ done ++ (w ∷ ws) = append_assoc done (w ∷ []) ws in (
       rw (role, is, here, defines, both.0, free, room) refl,
       define_words before h (done ++ w ∷ []) ws defines both.1
-      (rw next distinct) (rw next few),
+          (rw next distinct) (rw next few),
     )
 
 -- record words behind which gates may stand
@@ -156,11 +155,13 @@ gate_clean half names before n (CZ v u) h valid permitted fit angles =
     let held = held-name_at names v valid.distinct fit.0 in
     let second = is_name-name_at names u valid fit.1 in
     let there = held-name_at names u valid.distinct fit.1 in
-    let apart = names_apart names v u valid.distinct fit.0 fit.1 fit.2 in
-    (rw (follows, room) refl, (
-      rw (h.defined, named, held) refl,
-      (rw (h.defined, second, there, apart) refl, refl),
-    ))
+    let apart = names_apart names v u valid.distinct fit.0 fit.1 fit.2 in (
+      rw (follows, room) refl,
+      (
+        rw (h.defined, named, held) refl,
+        (rw (h.defined, second, there, apart) refl, refl),
+      ),
+    )
 
 pub first_fits : (wires : ℕ) (g : Gate) (gs : List Gate) → GatesFit wires (g ∷ gs)
     → GatesFit wires (g ∷ []) × GatesFit wires gs
@@ -218,7 +219,7 @@ pub outputs_clean : (names : List Name) (before : Lines) (done qs : List ℕ)
     → IsOpen names before 0 → AreNames names → All (λ q. q < length names) (done ++ qs)
     → ((q : ℕ) → q < length names → count_by (nat_eq q) (done ++ qs) ≡ 1)
     → CleanWords circuit_rules before (codes "out" ∷ map (name_at names) done)
-      (map (name_at names) qs)
+    (map (name_at names) qs)
 outputs_clean names before done [] h valid below once =
     let list = map (name_at names) done in
     let role = role_at before (codes "out") list in
@@ -227,16 +228,16 @@ outputs_clean names before done [] h valid below once =
     let all = rw (append-nil done) at once in
     let under : All (λ q. q < length names) done = rw (append-nil done) at below in
     let each : (q : ℕ) → q < length names → list_any (λ r. nat_eq r q) done ≡ true = λ q lt.
-        any-count q done ∙ rw (all q lt) refl in
+    any-count q done ∙ rw (all q lt) refl in
     let whole = all_listed names list done valid.distinct
-        (numbers-name_at names done valid.distinct under) each in
+    (numbers-name_at names done valid.distinct under) each in
     rw (role, here, h.none, defines, append-nil (names_at is_defining before []), h.defined, whole) refl
 outputs_clean names before done (q ∷ qs) h valid below once =
     let list = map (name_at names) done in
     let lt : q < length names =
-        let seam = get_or-append_seam done q qs 0 in
-        let long = length-append done (q ∷ qs) in
-        rw (← seam) (below (length done) 0 (omega arith)) in
+    let seam = get_or-append_seam done q qs 0 in
+    let long = length-append done (q ∷ qs) in
+    rw (← seam) (below (length done) 0 (omega arith)) in
     let role = role_at before (codes "out") list in
     let here = names_here is_output before (codes "out") list in
     let defines = names_here is_defining before (codes "out") list in
@@ -247,13 +248,21 @@ outputs_clean names before done (q ∷ qs) h valid below once =
     let any : list_any (λ r. nat_eq r q) done ≡ false = any-count q done ∙ rw none refl in
     let place = place-name_at names q valid.distinct lt in
     let free : is_held list (name_at names q) ≡ false =
-        sym (listed-number names list (name_at names q) q place are.held)
-        ∙ rw (← are.numbers_are) any in
+    sym (listed-number names list (name_at names q) q place are.held)
+    ∙ rw (← are.numbers_are) any in
     let next : (done ++ q ∷ []) ++ qs ≡ done ++ (q ∷ qs) = append_assoc done (q ∷ []) qs in
-    let rest = outputs_clean names before (done ++ q ∷ []) qs h valid (rw next below) (rw next once) in
-    (
-      rw (role, here, h.none, defines, append-nil (names_at is_defining before []), h.defined, named,
-        held, free) refl,
+    let rest = outputs_clean names before (done ++ q ∷ []) qs h valid (rw next below) (rw next once) in (
+      rw (
+        role,
+        here,
+        h.none,
+        defines,
+        append-nil (names_at is_defining before []),
+        h.defined,
+        named,
+        held,
+        free,
+      ) refl,
       rw (map-append (name_at names) done (q ∷ [])) at rest,
     )
 

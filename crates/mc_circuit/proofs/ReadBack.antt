@@ -84,10 +84,12 @@ plus_clean : (ns : List Name) (i : ℕ) → AreNames ns → list_all is_name (dr
 plus_clean ns i valid names =
     let before = (codes "in" ∷ take i ns) ∷ [] in
     let earlier : names_at is_defining before [] ≡ take i ns =
-        append-nil (take i ns ++ []) ∙ append-nil (take i ns) in
-    let all : names_at is_defining before [] ++ drop i ns ≡ ns = rw earlier (take-append-drop i ns) in
-    (refl, define_words before (codes "plus") [] (drop i ns) refl names
-      (rw all valid.distinct) (rw all valid.few))
+    append-nil (take i ns ++ []) ∙ append-nil (take i ns) in
+    let all : names_at is_defining before [] ++ drop i ns ≡ ns = rw earlier (take-append-drop i ns) in (
+      refl,
+      define_words before (codes "plus") [] (drop i ns) refl names
+          (rw all valid.distinct) (rw all valid.few),
+    )
 
 -- the lines behind those of the wires
 tail_of : Circuit → Lines
@@ -103,13 +105,14 @@ tail_clean half c before h permitted begun =
     let end = (codes "end" ∷ []) ∷ [] in
     gates_clean half c.names before c.gates (out ∷ end) begun h.valid.names permitted h.valid.gates
     h.angles (λ before' begun'.
-      let follows = last_head-more before' out in
-      more before' out end
-      (outputs_begin c.names before' begun',
-        outputs_clean c.names before' [] c.outputs begun' h.valid.names
-        h.valid.outputs.below h.valid.outputs.once)
-      refl
-      (last (before' ++ out ∷ []) (codes "end" ∷ []) (rw follows refl, refl) refl))
+    let follows = last_head-more before' out in
+    more before' out end (
+      outputs_begin c.names before' begun',
+      outputs_clean c.names before' [] c.outputs begun' h.valid.names
+          h.valid.outputs.below h.valid.outputs.once,
+    )
+    refl
+    (last (before' ++ out ∷ []) (codes "end" ∷ []) (rw follows refl, refl) refl))
 
 wires_clean : (half : ℕ) (c : Circuit) (plus : List Name) → plus ≡ drop c.inputs c.names
     → IsCircuit half c → IsTrue (is_permitted half)
@@ -118,7 +121,7 @@ unfolding takes_gates
 wires_clean half c [] e h permitted =
     let ins = take c.inputs c.names in
     let all : ins ≡ c.names =
-        sym (append-nil ins) ∙ rw e (take-append-drop c.inputs c.names) in
+    sym (append-nil ins) ∙ rw e (take-append-drop c.inputs c.names) in
     let none = no_gate_line (codes "in") ins refl in
     tail_clean half c ((codes "in" ∷ ins) ∷ []) h permitted (record {
       defined = append-nil (ins ++ []) ∙ append-nil ins ∙ all;
@@ -203,7 +206,7 @@ circuit_written half c h permitted =
     rw (
       parts.0,
       list_all-append is_written_line (plus_lines (drop c.inputs c.names))
-        (map (gate_line c.names) c.gates ++ out ∷ end),
+          (map (gate_line c.names) c.gates ++ out ∷ end),
       plus,
       list_all-append is_written_line (map (gate_line c.names) c.gates) (out ∷ end),
       gates,
@@ -280,26 +283,26 @@ pub circuit_back : (half : ℕ) (c : Circuit) → IsCircuit half c → IsTrue (i
     → circuit_of half (circuit_lines c) ≡ c
 circuit_back half c h permitted =
     let defined : names_at is_defining (circuit_lines c) [] ≡ c.names =
-        names_of is_defining c refl refl
-        ∙ rw (plus_defines (drop c.inputs c.names), append-nil (drop c.inputs c.names))
-          (take-append-drop c.inputs c.names) in
+    names_of is_defining c refl refl
+    ∙ rw (plus_defines (drop c.inputs c.names), append-nil (drop c.inputs c.names))
+    (take-append-drop c.inputs c.names) in
     let inputs : names_at is_input (circuit_lines c) [] ≡ take c.inputs c.names =
-        names_of is_input c refl refl
-        ∙ rw (plus_others is_input (drop c.inputs c.names) refl)
-          (append-nil (take c.inputs c.names)) in
+    names_of is_input c refl refl
+    ∙ rw (plus_others is_input (drop c.inputs c.names) refl)
+    (append-nil (take c.inputs c.names)) in
     let outputs : names_at is_output (circuit_lines c) [] ≡ map (name_at c.names) c.outputs =
-        names_of is_output c refl refl
-        ∙ rw (plus_others is_output (drop c.inputs c.names) refl)
-          (append-nil (map (name_at c.names) c.outputs)) in
+    names_of is_output c refl refl
+    ∙ rw (plus_others is_output (drop c.inputs c.names) refl)
+    (append-nil (map (name_at c.names) c.outputs)) in
     let few : length (take c.inputs c.names) ≡ c.inputs =
-        length-take-le c.inputs c.names h.valid.inputs in
+    length-take-le c.inputs c.names h.valid.inputs in
     let are = numbers-name_at c.names c.outputs h.valid.names.distinct h.valid.outputs.below in
     let gates = gates_back half c.names c.gates h.valid.names permitted h.valid.gates h.angles in
     rw (defined, inputs, few, outputs, ← are.numbers_are, gates_of c, gates) refl
 
 pub text_read : (half : ℕ) (c : Circuit) → IsCircuit half c → IsTrue (is_permitted half)
     → IsRead circuit_rules [] (circuit_lines c) (behind_header (circuit_text c))
-      (end_of (circuit_text c))
+    (end_of (circuit_text c))
 text_read half c h permitted =
     written_read circuit_rules (codes "circuit" ∷ codes "1" ∷ []) (circuit_lines c)
     (end_of (circuit_text c)) (circuit_written half c h permitted)

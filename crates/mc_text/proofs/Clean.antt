@@ -61,7 +61,7 @@ and_both false b e = absurd (cc e)
 -- a line and the lines behind it
 placed-cons : (line : ℕ) (words : Words) (lines : Lines) → is_written_line words ≡ true
     → (lack : Place) × (placed_lines line (words ∷ lines)
-      ≡ record { items = placed_items line words; lack = lack } ∷ placed_lines (line + 1) lines)
+    ≡ record { items = placed_items line words; lack = lack } ∷ placed_lines (line + 1) lines)
 unfolding placed_items placed_lines
 placed-cons line [] lines all = absurd (cc all)
 placed-cons line (w ∷ ws) lines all = (_, refl)

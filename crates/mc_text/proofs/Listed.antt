@@ -64,7 +64,7 @@ count-cons p x xs = sum_by-cons (λ (y : _). cond (p y) 1 0) x xs
 count_none : (name : Name) (list : List Name) → AllByRecursion (λ y. name_eq name y ≡ false) list
     → count_by (name_eq name) list ≡ 0
 count_none name [] none = refl
-count_none name (x ∷ list) none = 
+count_none name (x ∷ list) none =
     let rest = count_none name list none.1 in
     count-cons (name_eq name) x list ∙ rw (none.0, rest) refl
 
@@ -96,8 +96,8 @@ same_test names name other q r true e f t =
     eq-eqb q r (cc numbers)
 same_test names name other q r false e f t =
     ne_eqb q r (λ same.
-      let name' = place-same names name other r (e ∙ ap Some same) f in
-      true≢false (sym (name_eq-same name other name') ∙ t))
+    let name' = place-same names name other r (e ∙ ap Some same) f in
+    true≢false (sym (name_eq-same name other name') ∙ t))
 
 and_first : (a b : Bool) → (a && b) ≡ true → (a ≡ true) × (b ≡ true)
 and_first true b e = (refl, e)
@@ -121,10 +121,10 @@ numbers_below : (names list : List Name) → list_all (is_held names) list ≡ t
 numbers_below names list all =
     let held = AllPass-from_list_all (is_held names) list all in
     All-map (λ q. q < length names) (number_in names) list (λ k d lt.
-      let place = place-held names (get_or list k d) (held k d lt) in
-      let number : number_in names (get_or list k d) ≡ place.0 = rw place.1 refl in
-      let found = position-Some (name_eq (get_or list k d)) names place.0 d place.1 in
-      rw number found.0)
+    let place = place-held names (get_or list k d) (held k d lt) in
+    let number : number_in names (get_or list k d) ≡ place.0 = rw place.1 refl in
+    let found = position-Some (name_eq (get_or list k d)) names place.0 d place.1 in
+    rw number found.0)
 
 -- the numbers of distinct names list each number once whose name is among them
 pub ListsOnce-listed : (names list : List Name) (numbers : List ℕ) (d : Name)
@@ -145,8 +145,8 @@ pub all_listed : (names list : List Name) (numbers : List ℕ) → IsDistinct na
     → list_all (is_held list) names ≡ true
 all_listed names list numbers distinct are each =
     list_all-from_AllPass (is_held list) names (λ k d lt.
-      let same = listed-number names list (get_or names k d) k (place_at names k d distinct lt) are.held in
-      sym same ∙ rw are.numbers_are at (each k lt))
+    let same = listed-number names list (get_or names k d) k (place_at names k d distinct lt) are.held in
+    sym same ∙ rw are.numbers_are at (each k lt))
 
 pub each_listed : (names list : List Name) (numbers : List ℕ) → IsDistinct name_eq names
     → AreNumbers names list numbers → list_all (is_held list) names ≡ true

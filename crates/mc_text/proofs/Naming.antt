@@ -87,7 +87,7 @@ pub name_written : (w : Name) → is_name w ≡ true → is_written w ≡ true
 name_written [] e = absurd (cc e)
 name_written (b ∷ w) e =
     let parts = and_both (nat_le 1 (length (b ∷ w)) && nat_le (length (b ∷ w)) 16)
-        (list_all is_name_byte (b ∷ w)) e in
+    (list_all is_name_byte (b ∷ w)) e in
     bytes_written (b ∷ w) parts.1
 
 -- a name that differs from those behind it is not among those before it
@@ -120,7 +120,7 @@ pub number_written : (w : List ℕ) → is_number w ≡ true → is_written w �
 number_written [] e = absurd (cc e)
 number_written (b ∷ w) e =
     let parts = and_both (nat_le 1 (length (b ∷ w)) && nat_le (length (b ∷ w)) 4)
-        (list_all is_digit (b ∷ w)) e in
+    (list_all is_digit (b ∷ w)) e in
     digits_written (b ∷ w) parts.1
 
 -- two numbers have two names
@@ -134,5 +134,5 @@ names_apart names v u distinct lv lu ne =
     by_test true e =
         let same = ap (place_of names) (name_eq-true (name_at names v) (name_at names u) e) in
         let numbers : Some v ≡ Some u =
-            sym (place-name_at names v distinct lv) ∙ same ∙ place-name_at names u distinct lu in
+        sym (place-name_at names v distinct lv) ∙ same ∙ place-name_at names u distinct lu in
         absurd (ne (cc numbers))

@@ -23,7 +23,7 @@ ends_step : (rules : Rules) (before : Lines) (line : Line) (lines : List Line) (
     (start : Option Head) (t : Bool) → is_last line ≡ t
     → first_in_section rules before (line ∷ lines) end ≡ None
     → (first_in_section rules (before ++ words_of line.items ∷ []) lines end ≡ None
-      → last_from (head_in (words_of line.items)) (section_lines lines) ≡ Some End)
+    → last_from (head_in (words_of line.items)) (section_lines lines) ≡ Some End)
     → last_from start (section_lines (line ∷ lines)) ≡ Some End
 unfolding last_from
 ends_step rules before line lines end start true e clean rest =
