@@ -169,7 +169,7 @@ fn writes_into(
     alloc: Global,
     room: usize,
     failing: &[u32],
-    due: (Status, usize),
+    due: (Status, &str),
 ) -> Result<(), Fail> {
     let words = listed(alloc, "translate")?;
     let mut source = HonestSource::new(Vec::from_slice(alloc, ONE_GATE.as_bytes())?);
@@ -177,16 +177,18 @@ fn writes_into(
     let mut note = HonestSink::new(alloc, 96)?;
     let status = serve(alloc, words.as_slice(), &mut source, &mut out, &mut note);
     assert_eq!(rt; status, due.0);
-    assert_eq!(rt; out.bytes(), &ONE_GATE_PATTERN.as_bytes()[..due.1]);
+    assert_eq!(rt; out.bytes(), due.1.as_bytes());
     Ok(())
 }
 
 #[test]
 fn tells_faults(rt: HostRuntime) -> Result<(), Fail> {
     let alloc = rt.alloc();
-    writes_into(&rt, alloc, 51, &[1], (Status::WriteFault, 10))?;
-    writes_into(&rt, alloc, 51, &[], (Status::Done, 51))?;
-    writes_into(&rt, alloc, 50, &[], (Status::WriteFault, 50))?;
+    let one_piece = (Status::WriteFault, "pattern 1\n");
+    writes_into(&rt, alloc, 51, &[1], one_piece)?;
+    writes_into(&rt, alloc, 51, &[], (Status::Done, ONE_GATE_PATTERN))?;
+    let all_but_a_byte = "pattern 1\nin a\nn q1\ne a q1\nm a 7\nx q1 a\nout q1\nend";
+    writes_into(&rt, alloc, 50, &[], (Status::WriteFault, all_but_a_byte))?;
     let words = listed(alloc, "translate")?;
     let bytes = Vec::from_slice(alloc, ONE_GATE.as_bytes())?;
     let mut source = MemSource::new(bytes, 7, Vec::from_slice(alloc, &[0])?);
