@@ -1,2 +1,6 @@
 pub mod Improves
 pub mod Laws
+pub mod Settled
+pub mod Stepping
+pub mod Uses
+pub mod UsesLeft
