@@ -1,5 +1,6 @@
 pub mod Improves
 pub mod Laws
+pub mod Passing
 pub mod Settled
 pub mod Stepping
 pub mod Uses

@@ -2,12 +2,10 @@
 #![tactic(auto)]
 
 mod laws;
-mod rewriter;
 mod rule;
 
 pub use laws::{
     derivations_keep_patterns, standard_is_alike, standard_is_standard, step_is_alike,
     steps_lead_to_standard,
 };
-pub use rewriter::Rewriter;
 pub use rule::{Rule, Use};
