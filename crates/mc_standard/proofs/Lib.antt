@@ -1,6 +1,7 @@
 pub mod Carried
 pub mod Derives
 pub mod KeptPatterns
+pub mod Edits
 pub mod ExchangeLaws
 pub mod Frames
 pub mod InPlaceLemmas
@@ -9,6 +10,7 @@ pub mod LocalLaws
 pub mod Moves
 pub mod OnePass
 pub mod Orders
+pub mod Picks
 pub mod PlaceSums
 pub mod RankFalls
 pub mod RuleSums

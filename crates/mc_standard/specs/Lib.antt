@@ -1,3 +1,4 @@
+pub mod Changes
 pub mod Improves
 pub mod Laws
 pub mod Passing

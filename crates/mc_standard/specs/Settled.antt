@@ -12,6 +12,11 @@ IsTidy (Meas q a s t) = ⊤
 IsTidy (FixX q s) = is_empty s ≡ false
 IsTidy (FixZ q s) = is_empty s ≡ false
 
+-- the operands of an entangling differ
+abbrev pub OperandsDiffer : Command → Type 0
+OperandsDiffer (Ent i j) = i ≡ j → ⊥
+OperandsDiffer c = ⊤
+
 -- the second may stand right behind the first
 abbrev pub Follows : Command → Command → Type 0
 Follows (Prep q) d = ⊤

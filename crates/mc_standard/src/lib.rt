@@ -1,7 +1,10 @@
 //! The standard form of patterns, and the rewriting of their commands.
 #![tactic(auto)]
 
+mod apply;
+mod change;
 mod laws;
+mod pick;
 mod rule;
 
 pub use laws::{
