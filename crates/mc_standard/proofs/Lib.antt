@@ -11,6 +11,7 @@ pub mod Moves
 pub mod OnePass
 pub mod Orders
 pub mod Picks
+pub mod Placed
 pub mod PlaceSums
 pub mod RankFalls
 pub mod RuleSums
@@ -21,4 +22,5 @@ pub mod SettledForm
 pub mod Settles
 pub mod StandardAlike
 pub mod UsesLeft
+pub mod Walks
 pub mod WrongPairs

@@ -2,6 +2,7 @@ pub mod Changes
 pub mod Improves
 pub mod Laws
 pub mod Passing
+pub mod Places
 pub mod Settled
 pub mod Stepping
 pub mod Uses

@@ -14,8 +14,11 @@ IsTidy (FixZ q s) = is_empty s ≡ false
 
 -- the operands of an entangling differ
 abbrev pub OperandsDiffer : Command → Type 0
+OperandsDiffer (Prep q) = ⊤
 OperandsDiffer (Ent i j) = i ≡ j → ⊥
-OperandsDiffer c = ⊤
+OperandsDiffer (Meas i a s t) = ⊤
+OperandsDiffer (FixX i s) = ⊤
+OperandsDiffer (FixZ i s) = ⊤
 
 -- the second may stand right behind the first
 abbrev pub Follows : Command → Command → Type 0

@@ -3,12 +3,16 @@
 
 mod apply;
 mod change;
+mod copy;
 mod laws;
 mod pick;
+mod rewriter;
 mod rule;
+mod search;
 
 pub use laws::{
     derivations_keep_patterns, standard_is_alike, standard_is_standard, step_is_alike,
     steps_lead_to_standard,
 };
+pub use rewriter::Rewriter;
 pub use rule::{Rule, Use};
