@@ -9,6 +9,8 @@ mod pick;
 mod rewriter;
 mod rule;
 mod search;
+#[cfg(test)]
+mod tests;
 
 pub use laws::{
     derivations_keep_patterns, standard_is_alike, standard_is_standard, step_is_alike,
