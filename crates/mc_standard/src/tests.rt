@@ -85,36 +85,81 @@ fn cancels_two_edges(rt: HostRuntime) -> Result<(), Fail> {
     Ok(())
 }
 
-/// Two `J` on one wire: the correction between them goes into the second measurement and behind it.
+fn two_j(rt: &impl Abort, alloc: Global) -> Result<Pattern<4>, Fail> {
+    let mut builder = with_inputs(rt, alloc, &["a"])?;
+    add_j(rt, alloc, &mut builder, 0, "q1")?;
+    add_j(rt, alloc, &mut builder, 1, "q2")?;
+    finished(alloc, builder, &[2])
+}
+
+fn rewrite(rewriter: &mut Rewriter<4>) -> Result<(), Memory> {
+    while let Some(_) = rewriter.step()? {}
+    Ok(())
+}
+
+fn is_edge(command: &Command<4>, i: u16, j: u16) -> bool {
+    match command {
+        Command::Ent(q, r) => *q == i && *r == j,
+        _ => false,
+    }
+}
+
+/// Whether the qubit is measured, with just these members of its signal `s`.
+fn is_measure(command: &Command<4>, qubit: u16, members: &[u16]) -> bool {
+    match command {
+        Command::Meas { q, s, t, .. } => *q == qubit && has_just(s, members) && t.is_empty(),
+        _ => false,
+    }
+}
+
+fn has_just(signal: &Signal, members: &[u16]) -> bool {
+    signal.members().len() == members.len() && members.iter().all(|q| signal.has(*q))
+}
+
+fn is_x(command: &Command<4>, qubit: u16, members: &[u16]) -> bool {
+    match command {
+        Command::FixX { q, s } => *q == qubit && has_just(s, members),
+        _ => false,
+    }
+}
+
+fn is_z(command: &Command<4>, qubit: u16, members: &[u16]) -> bool {
+    match command {
+        Command::FixZ { q, s } => *q == qubit && has_just(s, members),
+        _ => false,
+    }
+}
+
+fn is_prep(command: &Command<4>, qubit: u16) -> bool {
+    match command {
+        Command::Prep(q) => *q == qubit,
+        _ => false,
+    }
+}
+
+/// The correction between the two goes into the second measurement, and over the second edge behind it.
+fn is_two_j_standard(commands: &[Command<4>]) -> bool {
+    match commands {
+        [first, second, edge, next, measure, last, x, z] => {
+            is_prep(first, 1)
+                && is_prep(second, 2)
+                && is_edge(edge, 0, 1)
+                && is_edge(next, 1, 2)
+                && is_measure(measure, 0, &[])
+                && is_measure(last, 1, &[0])
+                && is_x(x, 2, &[1])
+                && is_z(z, 2, &[0])
+        }
+        _ => false,
+    }
+}
+
 #[test]
 fn standardises_two_j(rt: HostRuntime) -> Result<(), Fail> {
     let alloc = rt.alloc();
-    let mut builder = with_inputs(&rt, alloc, &["a"])?;
-    add_j(&rt, alloc, &mut builder, 0, "q1")?;
-    add_j(&rt, alloc, &mut builder, 1, "q2")?;
-    let pattern = finished(alloc, builder, &[2])?;
+    let pattern = two_j(&rt, alloc)?;
     let mut rewriter = Rewriter::new(alloc, &pattern)?;
-    while let Some(_) = rewriter.step()? {}
-    match rewriter.commands() {
-        [
-            Command::Prep(1),
-            Command::Prep(2),
-            Command::Ent(0, 1),
-            Command::Ent(1, 2),
-            Command::Meas { q: 0, s, t, .. },
-            Command::Meas {
-                q: 1,
-                s: first,
-                t: second,
-                ..
-            },
-            Command::FixX { q: 2, s: fix },
-            Command::FixZ { q: 2, s: last },
-        ] => {
-            assert!(rt; s.is_empty() && t.is_empty() && first.has(0) && second.is_empty());
-            assert!(rt; fix.has(1) && !fix.has(0) && last.has(0) && !last.has(1));
-        }
-        _ => assert!(rt; false),
-    }
+    rewrite(&mut rewriter)?;
+    assert!(rt; is_two_j_standard(rewriter.commands()));
     Ok(())
 }
