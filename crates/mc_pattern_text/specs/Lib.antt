@@ -1,2 +1,6 @@
 pub mod Canonical
 pub mod Written
+pub mod Roles
+pub mod Value
+pub mod Judge
+pub mod Samples
