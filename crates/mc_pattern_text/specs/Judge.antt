@@ -4,6 +4,7 @@ use Rattle.std.specs.List.{list_all}
 use Rattle.mc_model.specs.Names.{name_eq, is_held}
 use Rattle.mc_text.specs.declared.head.Head.{Head}
 use Rattle.mc_text.specs.declared.fault.Fault.TheVariants.{NotFixed, LineEnds, Surplus, Measured, SameOperand, NotMeasured, ListedTwice, OutputsLack}
+use Rattle.mc_text.specs.declared.point.Point.{Point}
 use Rattle.mc_text.specs.Heads.{head_of}
 use Rattle.mc_text.specs.Points.{mark_of, point_of}
 use Rattle.mc_text.specs.Judged.{Judgement, Words, Lines, Rules}
@@ -24,6 +25,10 @@ first_signal here =
 abbrev pub second_signal : Words → Words
 second_signal here = words_under is_second None (names_in is_measuring here)
 
+-- whether a further word stands in the second signal of its line
+abbrev pub is_in_second : Point → Bool
+is_in_second p = is_measuring p.head && is_second p.mark
+
 -- what a word is judged by: the names that are defined, that were measured in earlier lines and that
 -- are listed as outputs, the first operand of its line, the members before it in its signal, and the
 -- number of commands in the lines before
@@ -41,7 +46,8 @@ known_at before here = record {
   measured = measured_in before;
   listed = names_at is_output before here;
   operand = operand_at 0 has_operand here;
-  members = if is_second (point_of before here).mark then second_signal here else first_signal here;
+  members =
+      if is_in_second (point_of before here) then second_signal here else first_signal here;
   commands = length (spelled_commands before);
 }
 
