@@ -1,2 +1,4 @@
 pub mod Improves
 pub mod Laws
+pub mod Parts
+pub mod Plain
