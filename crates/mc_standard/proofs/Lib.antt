@@ -20,3 +20,5 @@ pub mod Settles
 pub mod StandardAlike
 pub mod UsesLeft
 pub mod WrongPairs
+pub mod InParts
+pub mod CodeParts

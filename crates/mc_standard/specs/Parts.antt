@@ -30,6 +30,6 @@ with_signals p ms fs =
     with_commands p (preparations_of p.commands ++ (entanglings_of p.commands ++ (ms ++ fs)))
 
 -- a valid pattern that is its own standard form
-pub record IsStandard (half : ℕ) (p : Pattern) : Type 0 where
+pub record IsStandardForm (half : ℕ) (p : Pattern) : Type 0 where
   pub pattern : IsPattern half p
   pub own : standard_form p ≡ p

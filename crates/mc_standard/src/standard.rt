@@ -47,7 +47,7 @@ pub struct Standard<const H: usize> {
 impl<const H: usize> Model for Standard<H> {
     ghost use Rattle.mc_model.specs.Pattern.{Pattern as Plain};
     ghost use Rattle.mc_pattern.specs.Patterns.{begun, with_outputs};
-    ghost use Rattle.mc_standard.specs.Parts.{IsStandard};
+    ghost use Rattle.mc_standard.specs.Parts.{IsStandardForm};
     ghost use Rattle.mc_standard.specs.Plain.{in_parts};
 
     ghost Value = { Plain };
@@ -55,17 +55,17 @@ impl<const H: usize> Model for Standard<H> {
     ghost view = { λ p. with_outputs (begun p.names p.inputs
         (in_parts p.preps.items p.edges.items p.measures.items p.fixes.items)) p.outs.items };
 
-    ghost invariant = { λ p. IsStandard H (with_outputs (begun p.names p.inputs
+    ghost invariant = { λ p. IsStandardForm H (with_outputs (begun p.names p.inputs
         (in_parts p.preps.items p.edges.items p.measures.items p.fixes.items)) p.outs.items) };
 }
 
 impl<const H: usize> Standard<H> {
-    ghost use Rattle.mc_standard.specs.Parts.{IsStandard, IsInParts};
+    ghost use Rattle.mc_standard.specs.Parts.{IsStandardForm, IsInParts};
 
     /// The names of the qubits.
     pub fn names(&self) -> &Names
         ensures names { result.now ≡ self.now.names }
-        ensures standard { IsStandard H self.now }
+        ensures standard { IsStandardForm H self.now }
         ensures parts { IsInParts self.now.commands }
     {
         &self.names
