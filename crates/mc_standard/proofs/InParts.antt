@@ -3,10 +3,11 @@ use Rattle.std.proofs.Common.{◌≡◌, ℕ, List, [], ◌∷◌, ◌++◌, map
 use Rattle.std.specs.Prelude.{nat_eq, ⊤}
 use Rattle.std.proofs.lemmas.Bool.{eq-eqb, ne_eqb}
 use Rattle.std.proofs.lemmas.List.Elements.{filter-append}
+use Rattle.mc_model.specs.Signals.{Signal}
 use Rattle.mc_model.specs.Pattern.{Command, Prep, Ent, Meas, FixX, FixZ}
 use Rattle.mc_model.specs.StandardForm.{preparations_of}
 use Rattle.mc_model.specs.Derivation.{part}
-use Rattle.mc_standard.specs.Parts.{part_of, entanglings_of, measurements_of, corrections_of, IsInParts}
+use Rattle.mc_standard.specs.Parts.{part_of, entanglings_of, measurements_of, corrections_of, HasParts, IsInParts}
 
 -- each command of the list is of one part
 abbrev pub AllOf : ℕ → List Command → Type 0
@@ -41,13 +42,6 @@ preparations_part (Ent q r ∷ cs) = preparations_part cs
 preparations_part (Meas q a s t ∷ cs) = preparations_part cs
 preparations_part (FixX q s ∷ cs) = preparations_part cs
 preparations_part (FixZ q s ∷ cs) = preparations_part cs
-
--- the parts of a list of parts in order
-pub record HasParts (ps es ms fs cs : List Command) : Type 0 where
-  pub preparations : preparations_of cs ≡ ps
-  pub entanglings : entanglings_of cs ≡ es
-  pub measurements : measurements_of cs ≡ ms
-  pub corrections : corrections_of cs ≡ fs
 
 four_taken : (k : ℕ) (ps es ms fs : List Command) →
     part_of k (ps ++ (es ++ (ms ++ fs)))
@@ -109,3 +103,97 @@ in_parts_by ps es ms fs cs h e =
     ∙ four_are ps es ms fs (preparations_of cs) (entanglings_of cs) (measurements_of cs)
     (corrections_of cs) (sym h.preparations) (sym h.entanglings) (sym h.measurements)
     (sym h.corrections)
+
+-- one more command
+part_more : (k : ℕ) (cs : List Command) (c : Command) →
+    part_of k (cs ++ (c ∷ [])) ≡ part_of k cs ++ part_of k (c ∷ [])
+part_more k cs c = filter-append (λ c. nat_eq (part c) k) cs (c ∷ [])
+
+part_stays : (k : ℕ) (cs : List Command) (c : Command) → part_of k (c ∷ []) ≡ [] →
+    part_of k (cs ++ (c ∷ [])) ≡ part_of k cs
+part_stays k cs c none =
+    part_more k cs c ∙ ap (λ (xs : List Command). part_of k cs ++ xs) none
+    ∙ append-nil (part_of k cs)
+
+part_grows : (k : ℕ) (cs : List Command) (c : Command) → part_of k (c ∷ []) ≡ c ∷ [] →
+    part_of k (cs ++ (c ∷ [])) ≡ part_of k cs ++ (c ∷ [])
+part_grows k cs c one = part_more k cs c ∙ ap (λ (xs : List Command). part_of k cs ++ xs) one
+
+preps_stay : (cs : List Command) (c : Command) → part_of 0 (c ∷ []) ≡ [] →
+    preparations_of (cs ++ (c ∷ [])) ≡ preparations_of cs
+preps_stay cs c none =
+    preparations_part (cs ++ (c ∷ [])) ∙ part_stays 0 cs c none ∙ sym (preparations_part cs)
+
+preps_grow : (cs : List Command) (c : Command) → part_of 0 (c ∷ []) ≡ c ∷ [] →
+    preparations_of (cs ++ (c ∷ [])) ≡ preparations_of cs ++ (c ∷ [])
+preps_grow cs c one =
+    preparations_part (cs ++ (c ∷ [])) ∙ part_grows 0 cs c one
+    ∙ ap (λ (xs : List Command). xs ++ (c ∷ [])) (sym (preparations_part cs))
+
+pub no_parts : HasParts [] [] [] [] []
+unfolding preparations_of
+no_parts = record {
+  preparations = refl;
+  entanglings = refl;
+  measurements = refl;
+  corrections = refl;
+}
+
+behind : (xs ys : List Command) (c : Command) → xs ≡ ys → xs ++ (c ∷ []) ≡ ys ++ (c ∷ [])
+behind xs ys c e = ap (λ (zs : List Command). zs ++ (c ∷ [])) e
+
+pub parts_with_prep : (ps es ms fs cs : List Command) (q : ℕ) → HasParts ps es ms fs cs →
+    HasParts (ps ++ (Prep q ∷ [])) es ms fs (cs ++ (Prep q ∷ []))
+parts_with_prep ps es ms fs cs q h =
+    let c : Command = Prep q in
+    record {
+      preparations = preps_grow cs c refl ∙ behind (preparations_of cs) ps c h.preparations;
+      entanglings = part_stays 1 cs c refl ∙ h.entanglings;
+      measurements = part_stays 2 cs c refl ∙ h.measurements;
+      corrections = part_stays 3 cs c refl ∙ h.corrections;
+    }
+
+pub parts_with_ent : (ps es ms fs cs : List Command) (q r : ℕ) → HasParts ps es ms fs cs →
+    HasParts ps (es ++ (Ent q r ∷ [])) ms fs (cs ++ (Ent q r ∷ []))
+parts_with_ent ps es ms fs cs q r h =
+    let c : Command = Ent q r in
+    record {
+      preparations = preps_stay cs c refl ∙ h.preparations;
+      entanglings = part_grows 1 cs c refl ∙ behind (entanglings_of cs) es c h.entanglings;
+      measurements = part_stays 2 cs c refl ∙ h.measurements;
+      corrections = part_stays 3 cs c refl ∙ h.corrections;
+    }
+
+pub parts_with_meas : (ps es ms fs cs : List Command) (q a : ℕ) (s t : Signal) →
+    HasParts ps es ms fs cs →
+    HasParts ps es (ms ++ (Meas q a s t ∷ [])) fs (cs ++ (Meas q a s t ∷ []))
+parts_with_meas ps es ms fs cs q a s t h =
+    let c : Command = Meas q a s t in
+    record {
+      preparations = preps_stay cs c refl ∙ h.preparations;
+      entanglings = part_stays 1 cs c refl ∙ h.entanglings;
+      measurements = part_grows 2 cs c refl ∙ behind (measurements_of cs) ms c h.measurements;
+      corrections = part_stays 3 cs c refl ∙ h.corrections;
+    }
+
+pub parts_with_x : (ps es ms fs cs : List Command) (q : ℕ) (s : Signal) →
+    HasParts ps es ms fs cs → HasParts ps es ms (fs ++ (FixX q s ∷ [])) (cs ++ (FixX q s ∷ []))
+parts_with_x ps es ms fs cs q s h =
+    let c : Command = FixX q s in
+    record {
+      preparations = preps_stay cs c refl ∙ h.preparations;
+      entanglings = part_stays 1 cs c refl ∙ h.entanglings;
+      measurements = part_stays 2 cs c refl ∙ h.measurements;
+      corrections = part_grows 3 cs c refl ∙ behind (corrections_of cs) fs c h.corrections;
+    }
+
+pub parts_with_z : (ps es ms fs cs : List Command) (q : ℕ) (s : Signal) →
+    HasParts ps es ms fs cs → HasParts ps es ms (fs ++ (FixZ q s ∷ [])) (cs ++ (FixZ q s ∷ []))
+parts_with_z ps es ms fs cs q s h =
+    let c : Command = FixZ q s in
+    record {
+      preparations = preps_stay cs c refl ∙ h.preparations;
+      entanglings = part_stays 1 cs c refl ∙ h.entanglings;
+      measurements = part_stays 2 cs c refl ∙ h.measurements;
+      corrections = part_grows 3 cs c refl ∙ behind (corrections_of cs) fs c h.corrections;
+    }

@@ -22,3 +22,4 @@ pub mod UsesLeft
 pub mod WrongPairs
 pub mod InParts
 pub mod CodeParts
+pub mod CutParts

@@ -1,3 +1,4 @@
+pub mod Cut
 pub mod Improves
 pub mod Laws
 pub mod Parts

@@ -19,6 +19,13 @@ measurements_of = part_of 2
 abbrev pub corrections_of : List Command → List Command
 corrections_of = part_of 3
 
+-- the four parts of the list
+pub record HasParts (ps es ms fs cs : List Command) : Type 0 where
+  pub preparations : preparations_of cs ≡ ps
+  pub entanglings : entanglings_of cs ≡ es
+  pub measurements : measurements_of cs ≡ ms
+  pub corrections : corrections_of cs ≡ fs
+
 -- the list is its preparations, entanglings, measurements and corrections one after the other
 abbrev pub IsInParts : List Command → Type 0
 IsInParts cs =

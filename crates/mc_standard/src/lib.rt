@@ -4,6 +4,7 @@
 mod laws;
 mod listing;
 mod standard;
+mod standardisation;
 
 pub use laws::{
     derivations_keep_patterns, standard_is_alike, standard_is_standard, step_is_alike,
