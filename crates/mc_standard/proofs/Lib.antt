@@ -23,3 +23,6 @@ pub mod WrongPairs
 pub mod InParts
 pub mod CodeParts
 pub mod CutParts
+pub mod StandardSize
+pub mod StandardTyped
+pub mod StandardPatterns
