@@ -2,6 +2,7 @@
 #![tactic(auto)]
 
 mod print;
+mod reader;
 #[cfg(test)]
 mod tests;
 

@@ -25,3 +25,9 @@ pub mod StandardAlike
 pub mod UsesLeft
 pub mod Walks
 pub mod WrongPairs
+pub mod InParts
+pub mod CodeParts
+pub mod CutParts
+pub mod StandardSize
+pub mod StandardTyped
+pub mod StandardPatterns

@@ -5,10 +5,13 @@ mod apply;
 mod change;
 mod copy;
 mod laws;
+mod listing;
 mod pick;
 mod rewriter;
 mod rule;
 mod search;
+mod standard;
+mod standardisation;
 #[cfg(test)]
 mod tests;
 
@@ -18,3 +21,4 @@ pub use laws::{
 };
 pub use rewriter::Rewriter;
 pub use rule::{Rule, Use};
+pub use standard::{Fix, Measure, Standard};
