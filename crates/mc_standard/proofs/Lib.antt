@@ -16,6 +16,7 @@ pub mod Placed
 pub mod PlaceSums
 pub mod RankFalls
 pub mod RuleSums
+pub mod RuleTypes
 pub mod RunningSums
 pub mod SameForm
 pub mod SettledEdges

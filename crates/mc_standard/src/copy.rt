@@ -2,6 +2,7 @@
 
 ghost use Rattle.std.specs.Prelude.{◌≡◌, IfOk};
 
+use crate::listing::append;
 use mc_model::Memory;
 use mc_pattern::Command;
 use std::alloc::Global;
@@ -43,10 +44,7 @@ pub(crate) fn copy_all<const H: usize>(
 {
     let mut copies = Vec::new(alloc);
     'commands: for command in commands {
-        let copy = copy(command)?;
-        if let Err(_) = copies.push(copy) {
-            return Err(Memory);
-        }
+        append(&mut copies, copy(command)?)?;
     }
     Ok(copies)
 }

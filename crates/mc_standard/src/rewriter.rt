@@ -4,11 +4,13 @@ ghost use Rattle.std.specs.Prelude.{◌≡◌, ◌↔◌, ◌<◌, map, IfOk, If
 ghost use Rattle.mc_model.specs.Derivation.{rank};
 ghost use Rattle.mc_model.specs.Valid.{IsValidPattern};
 ghost use Rattle.mc_pattern.specs.Commands.{plain_command};
+ghost use Rattle.mc_pattern.specs.Typed.{AllTyped};
 ghost use Rattle.mc_standard.specs.Stepping.{Advances, IsStandard};
 ghost use Rattle.mc_standard.specs.Uses.{plain_use};
 ghost use Rattle.mc_standard.specs.UsesLeft.{uses_left};
 
 use crate::copy::copy_all;
+use crate::listing::copied;
 use crate::rule::Use;
 use crate::search::{first_early, pass_at, settle_from};
 use mc_model::Memory;
@@ -33,20 +35,18 @@ pub struct Rewriter<const H: usize> {
 impl<const H: usize> Model for Rewriter<H> {
     ghost use Rattle.std.specs.Prelude.{map};
     ghost use Rattle.mc_model.specs.Pattern.{Pattern as Plain};
-    ghost use Rattle.mc_model.specs.Valid.{IsValidPattern};
     ghost use Rattle.mc_pattern.specs.Commands.{plain_command};
     ghost use Rattle.mc_pattern.specs.Patterns.{begun, with_outputs};
-    ghost use Rattle.mc_standard.specs.Settled.{IsDone};
+    ghost use Rattle.mc_standard.specs.Stepping.{IsRewriting};
 
     ghost Value = { Plain };
 
     ghost view = { λ r.
         with_outputs (begun r.names r.inputs (map plain_command r.commands.items)) r.outs.items };
 
-    ghost invariant = { λ r.
-        IsValidPattern (with_outputs (begun r.names r.inputs (map plain_command r.commands.items))
-        r.outs.items)
-        × IsDone (map plain_command r.commands.items) r.ordered r.settled };
+    ghost invariant = { λ r. IsRewriting H
+        (with_outputs (begun r.names r.inputs (map plain_command r.commands.items)) r.outs.items)
+        r.ordered r.settled };
 }
 
 impl<const H: usize> Rewriter<H> {
@@ -56,23 +56,22 @@ impl<const H: usize> Rewriter<H> {
     {
         let names = p.names().copy()?;
         let commands = copy_all(alloc, p.commands())?;
-        match p.outputs().to_vec(alloc) {
-            Ok(outs) => Ok(Rewriter {
-                names,
-                inputs: p.inputs(),
-                commands,
-                outs,
-                ordered: 0,
-                settled: 0,
-            }),
-            Err(_) => Err(Memory),
-        }
+        let outs = copied(alloc, p.outputs())?;
+        Ok(Rewriter {
+            names,
+            inputs: p.inputs(),
+            commands,
+            outs,
+            ordered: 0,
+            settled: 0,
+        })
     }
 
     /// The names of the qubits.
     pub fn names(&self) -> &Names
         ensures names { result.now ≡ self.now.names }
         ensures valid { IsValidPattern self.now }
+        ensures typed { AllTyped H self.now.commands }
     {
         &self.names
     }

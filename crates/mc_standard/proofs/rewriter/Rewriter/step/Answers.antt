@@ -4,6 +4,7 @@ use Rattle.std.proofs.lemmas.List.{length-map}
 use Rattle.mc_pattern.specs.Commands.{plain_command}
 use Rattle.mc_standard.specs.Uses.{plain_rule, plain_use}
 use Rattle.mc_standard.proofs.Advance.{IsNext, IsLast, next_by_passing, next_by_settling, last_use}
+use Rattle.mc_standard.proofs.RuleTypes.{step_typed}
 use Rattle.mc_standard.proofs.rewriter.Rewriter.step.Given.{Over}
 use Rattle.mc_standard.proofs.rewriter.Rewriter.step.Goals as goal
 
@@ -16,7 +17,7 @@ passing g c =
     let slice = c.as_slice.ensures.value in
     let first = c.first_early-early.ensures in
     rw (← c.self.view_is) (next_by_passing _ _ (plain_rule c.in_ok-rule.rule)
-    c.first_early-early.result _ _ _ c.self.invariant.0 c.self.invariant.1
+    c.first_early-early.result _ _ _ c.self.invariant.valid c.self.invariant.done
     (rw slice at first.in_order) (rw slice at first.early (omega arith))
     c.in_ok-rule.ensures.passes c.min-self-inside.ensures)
 
@@ -29,7 +30,7 @@ settling g c =
     let slice = c.as_slice.ensures.value in
     let first = c.first_early-early.ensures in
     rw (← c.self.view_is) (next_by_settling _ _ (plain_use c.in-Some.used) _ _
-    c.first_early-early.result c.len-self-inside.result c.self.invariant.0 c.self.invariant.1
+    c.first_early-early.result c.len-self-inside.result c.self.invariant.valid c.self.invariant.done
     (rw slice at first.in_order) (rw length-map (omega arith))
     (rw c.in-Some.is at c.in_ok-used.ensures.settles) (rw length-map (omega arith)))
 
@@ -45,13 +46,18 @@ lasting g c =
     let new = c.settle_from.new.commands.ok.0 in
     rw (← c.self.view_is) (last_use _ _ _ c.first_early-early.result
     c.len-self-inside-in-None.result c.len-self-inside-in-None-2.result
-    (vec_len c.self.inside.commands) c.self.invariant.0 c.self.invariant.1
+    (vec_len c.self.inside.commands) c.self.invariant.valid c.self.invariant.done
     (rw slice at first.in_order) (rw length-map (omega arith)) none.1 (rw length-map (omega arith))
     (rw length-map (omega arith)) (rw length-map (omega arith)))
 
 pub invariant_of-self-then-early-len : goal.invariant_of-self-then-early-len
 invariant_of-self-then-early-len g c =
-    let next = rw (← c.self.view_is) at (passing g c) in (next.advanced.valid, next.done)
+    let next = rw (← c.self.view_is) at (passing g c) in
+    record {
+      valid = next.advanced.valid;
+      typed = step_typed g.row.H _ _ _ _ _ next.advanced.step c.self.invariant.typed;
+      done = next.done;
+    }
 
 pub returns-then-early-len-clause-used : goal.returns-then-early-len-clause-used
 returns-then-early-len-clause-used g c =
@@ -66,13 +72,22 @@ returns-then-early-len-clause-done g c =
 
 pub invariant_of-self-in-Some : goal.invariant_of-self-in-Some
 invariant_of-self-in-Some g c =
-    let next = rw (← c.self.view_is) at (settling g c) in (next.advanced.valid, next.done)
+    let next = rw (← c.self.view_is) at (settling g c) in
+    record {
+      valid = next.advanced.valid;
+      typed = step_typed g.row.H _ _ _ _ _ next.advanced.step c.self.invariant.typed;
+      done = next.done;
+    }
 
 pub invariant_of-self-in-None : goal.invariant_of-self-in-None
 invariant_of-self-in-None g c =
     let none = rw c.in-None.is at c.in_ok-used.ensures.settles in
     let last = rw (← c.self.view_is) at (lasting g c) in
-    rw none.0 (c.self.invariant.0, last.done)
+    rw none.0 (record {
+      valid = c.self.invariant.valid;
+      typed = c.self.invariant.typed;
+      done = last.done;
+    })
 
 pub returns-in-Some-clause-used : goal.returns-in-Some-clause-used
 returns-in-Some-clause-used g c =
