@@ -1,13 +1,13 @@
 -- A use of a rule by the rewriter: what it does to the pattern, and how far the new list is done.
-use Rattle.std.proofs.Common.{◌≡◌, ℕ, suc, ◌+◌, ◌-◌, ◌<◌, ◌≤◌, min, List, [], ◌∷◌, ◌++◌, map, length, take, refl, sym, ◌∙◌, ap, ap₂, subst, arith}
+use Rattle.std.proofs.Common.{◌≡◌, ℕ, ◌+◌, ◌-◌, ◌≤◌, min, List, [], ◌∷◌, ◌++◌, length, take, refl, sym, ◌∙◌, ap, ap₂, subst, arith}
 use Rattle.std.proofs.lemmas.List.{take-take}
 use Rattle.std.proofs.Math.Seq.{take-append_seam, take-length}
 use mathlib.Core.Logic.{inl, inr}
 use Rattle.mc_model.specs.Ring.{ring}
 use Rattle.mc_model.specs.Pattern.{Command, Pattern}
-use Rattle.mc_model.specs.Valid.{IsValid, IsValidPattern}
+use Rattle.mc_model.specs.Valid.{IsValidPattern}
 use Rattle.mc_model.specs.StandardForm.{standard_form}
-use Rattle.mc_model.specs.Derivation.{Rule, Use, Step, Rank, rank, part, out_of_order}
+use Rattle.mc_model.specs.Derivation.{Rule, Use, Step, rank, out_of_order}
 use Rattle.mc_model.proofs.AlikeLemmas.{alike_branches}
 use Rattle.mc_model.proofs.RingLemmas.{ring_laws}
 use Rattle.mc_standard.specs.Improves.{Descends, Improvement}

@@ -1,5 +1,5 @@
 -- Edits of a list at a place, and what a map makes of them.
-use Rattle.std.proofs.Common.{◌≡◌, ℕ, zero, suc, ◌+◌, ◌-◌, ◌<◌, ◌≤◌, List, [], ◌∷◌, ◌++◌, map, length, take, drop, get_or, set, refl, sym, ◌∙◌, ap, ap₂, arith, append_assoc}
+use Rattle.std.proofs.Common.{◌≡◌, ℕ, zero, suc, ◌+◌, ◌-◌, ◌≤◌, List, [], ◌∷◌, ◌++◌, map, length, take, drop, set, refl, sym, ◌∙◌, ap, ap₂, arith, append_assoc}
 use Rattle.std.specs.List.{swap, insert, remove}
 use Rattle.std.proofs.lemmas.List.{map-append, length-map, set-append_right, get_or-append-add}
 use Rattle.std.proofs.lemmas.List.Edits.{swap_is}

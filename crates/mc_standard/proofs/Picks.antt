@@ -1,8 +1,8 @@
 -- The rules that are picked for two neighbours apply to them.
-use Rattle.std.proofs.Common.{◌≡◌, ◌⊎◌, ℕ, ◌<◌, true, false, List, [], ◌∷◌, refl, sym, ◌∙◌, arith}
+use Rattle.std.proofs.Common.{◌≡◌, ℕ, ◌<◌, true, false, [], ◌∷◌, refl, sym, ◌∙◌, arith}
 use Rattle.std.proofs.lemmas.Bool.{cases_order, true≢false}
 use mathlib.Core.Logic.{inl, inr}
-use Rattle.mc_model.specs.Pattern.{Command, Prep, Ent, Meas, FixX, FixZ}
+use Rattle.mc_model.specs.Pattern.{Command, Ent, FixX, FixZ}
 use Rattle.mc_model.specs.Signals.{Signal}
 use Rattle.mc_model.specs.Alike.{Disjoint, Misses}
 use Rattle.mc_model.specs.Derivation.{Cancel, Rewrites, UsesNot, swapped, same_cancelled, turned_cancelled, part, lower, higher, pair_before, is_wrong}

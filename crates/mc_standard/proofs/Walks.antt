@@ -3,16 +3,15 @@ use Rattle.std.proofs.Common.{◌≡◌, ◌||◌, false, ℕ, zero, suc, ◌+�
 use Rattle.std.specs.Prelude.{nat_lt}
 use Rattle.std.proofs.lemmas.Bool.{cases_lt, lt-ltb, le-ltb, or_parts, ltb-false}
 use Rattle.std.proofs.lemmas.List.{get_or-map, take-take, take-append-drop}
-use Rattle.std.proofs.Math.Seq.{take-append_seam, take-append-add}
+use Rattle.std.proofs.Math.Seq.{take-append-add}
 use mathlib.Core.Logic.{inl, inr}
 use Rattle.mc_model.specs.Pattern.{Command}
-use Rattle.mc_model.specs.Valid.{IsValid, FitsBehind}
 use Rattle.mc_model.specs.Derivation.{Rule, Use, part, has_later, out_of_order}
 use Rattle.mc_pattern.specs.Commands.{plain_command}
 use Rattle.mc_pattern.specs.declared.command.Command.{Command as Coded}
 use Rattle.mc_standard.specs.Places.{part_at, IsEarly, SettlesAt, IsTidyAt, FollowsAt, StaysSettled, Settles}
-use Rattle.mc_standard.specs.Settled.{IsTidy, Follows, FirstFollows, IsSettled, InOrder}
-use Rattle.mc_standard.proofs.Edits.{one_at, two_at}
+use Rattle.mc_standard.specs.Settled.{IsTidy, Follows, IsSettled, InOrder}
+use Rattle.mc_standard.proofs.Edits.{two_at}
 use Rattle.mc_standard.proofs.Moves.{differ, map-append, none_later}
 use Rattle.mc_standard.proofs.Placed.{part_here, part_next}
 use Rattle.mc_standard.proofs.RankFalls.{has-append, order-append}

@@ -1,8 +1,7 @@
 -- What a change makes of the commands at its place.
-use Rattle.std.specs.Prelude.{◌≡◌, ◌⊎◌, ℕ, ◌<◌, ◌≤◌, true, List, [], ◌∷◌, length}
-use Rattle.mc_model.specs.Pattern.{Command, Ent}
+use Rattle.std.specs.Prelude.{◌≡◌, ◌⊎◌, ℕ, ◌<◌, true, List, [], ◌∷◌, length}
+use Rattle.mc_model.specs.Pattern.{Command}
 use Rattle.mc_model.specs.Derivation.{Rewrites, part, is_wrong, is_turned}
-use Rattle.mc_pattern.specs.declared.command.Command.{Command as Coded}
 use Rattle.mc_standard.specs.declared.change.Change.{Change}
 use Rattle.mc_standard.specs.declared.change.Change.TheVariants as change
 use Rattle.mc_standard.specs.declared.change.Rewrite.{Rewrite}

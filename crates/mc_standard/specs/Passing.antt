@@ -1,6 +1,6 @@
 -- What holds of a command and of one before it that it passes in a valid list.
 use Rattle.std.specs.Prelude.{⊤}
-use Rattle.mc_model.specs.Pattern.{Command, Prep, Ent, Meas, FixX, FixZ}
+use Rattle.mc_model.specs.Pattern.{Command, Prep, Ent, Meas}
 use Rattle.mc_model.specs.Alike.{Disjoint}
 
 -- a preparation, or an entangling behind a measurement, has no operand of the command before it

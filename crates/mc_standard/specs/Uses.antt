@@ -1,5 +1,4 @@
 -- The rules and uses of the code as those of the definitions.
-use Rattle.std.specs.Prelude.{ℕ}
 use Rattle.mc_standard.specs.declared.rule.Rule.{Rule}
 use Rattle.mc_standard.specs.declared.rule.Rule.TheVariants as rule
 use Rattle.mc_standard.specs.declared.rule.Use.{Use}

@@ -1,4 +1,4 @@
-use Rattle.std.proofs.Common.{refl, sym, arith}
+use Rattle.std.proofs.Common.{refl}
 use Rattle.mc_model.specs.Derivation.{x_first, x_second, x_measured}
 use Rattle.mc_model.specs.Pattern.{FixX}
 use Rattle.mc_pattern.specs.Commands.{plain_command}

@@ -1,4 +1,4 @@
-use Rattle.std.proofs.Common.{refl, sym, arith}
+use Rattle.std.proofs.Common.{refl}
 use Rattle.mc_model.specs.Derivation.{z_first, z_second, z_measured}
 use Rattle.mc_model.specs.Pattern.{FixZ}
 use Rattle.mc_pattern.specs.Commands.{plain_command}

@@ -1,6 +1,5 @@
-use Rattle.std.proofs.Common.{◌∙◌, ◌-◌, arith, map}
+use Rattle.std.proofs.Common.{arith}
 use Rattle.std.proofs.lemmas.List.{length-map}
-use Rattle.mc_pattern.specs.Commands.{plain_command}
 use Rattle.mc_standard.specs.Uses.{plain_rule}
 use Rattle.mc_standard.proofs.Walks.{stays_further, settles_two}
 use Rattle.mc_standard.proofs.search.settle_at.Goals as goal
