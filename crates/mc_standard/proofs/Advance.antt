@@ -71,7 +71,8 @@ same_front inputs rule place cs ds s =
           let long = ap length s.to_list in
           let sum = length-append s.before (s.new ++ s.behind) in
           omega arith;
-      same = front ds (s.new ++ s.behind) s.to_list ∙ sym (front cs (s.old ++ s.behind) s.from_list);
+      same = front ds (s.new ++ s.behind) s.to_list
+          ∙ sym (front cs (s.old ++ s.behind) s.from_list);
     }
 
 -- a list in order stays in order

@@ -39,7 +39,8 @@ pub record IsOne (cs : List Command) (i : ℕ) (c : Command) : Type 0 where
 here_is : (cs before : List Command) (c x : Command) (behind : List Command) (i : ℕ) →
     cs ≡ before ++ (c ∷ behind) → i ≡ length before → x ≡ get_or cs i x → x ≡ c
 here_is cs before c x behind i is at read = read
-    ∙ ap₂ (λ (xs : List Command) (n : ℕ). get_or xs n x) is at ∙ get_or-append_seam before c behind x
+    ∙ ap₂ (λ (xs : List Command) (n : ℕ). get_or xs n x) is at
+    ∙ get_or-append_seam before c behind x
 
 next_is : (cs before : List Command) (c d x : Command) (behind : List Command) (i : ℕ) →
     cs ≡ before ++ (c ∷ d ∷ behind) → i ≡ length before → x ≡ get_or cs (i + 1) x → x ≡ d

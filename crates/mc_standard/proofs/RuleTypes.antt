@@ -38,7 +38,8 @@ rule_typed half DropEmpty _ _ (z_dropped {i}) h = tt
 pub step_typed : (half inputs : ℕ) (rule : Rule) (place : ℕ) (cs ds : List Command) →
     Step inputs rule place cs ds → AllTyped half cs → AllTyped half ds
 step_typed half inputs rule place cs ds s h =
-    let front = typed_parts half s.before (s.old ++ s.behind) (subst (AllTyped half) s.from_list h) in
+    let front = typed_parts half s.before (s.old ++ s.behind)
+    (subst (AllTyped half) s.from_list h) in
     let rest = typed_parts half s.old s.behind front.1 in
     subst (AllTyped half) (sym s.to_list)
     (typed_append half s.before (s.new ++ s.behind) front.0

@@ -75,10 +75,12 @@ neighbours_rise before c d behind z =
     let e : before ++ (c ∷ d ∷ behind) ≡ (before ++ (c ∷ [])) ++ (d ∷ behind) =
     sym (append_assoc before (c ∷ []) (d ∷ behind)) in
     let front = front_order (before ++ (c ∷ [])) d behind (subst InOrder e z) in
-    let named : map part ((before ++ (c ∷ [])) ++ (d ∷ [])) ≡ (ps ++ (part c ∷ [])) ++ (part d ∷ []) =
+    let named : map part ((before ++ (c ∷ [])) ++ (d ∷ []))
+    ≡ (ps ++ (part c ∷ [])) ++ (part d ∷ []) =
     map-append (before ++ (c ∷ [])) (d ∷ [])
     ∙ ap (λ (xs : List ℕ). xs ++ (part d ∷ [])) (map-append before (c ∷ [])) in
-    let none = none_later (ps ++ (part c ∷ [])) (part d) (sym (ap (out_of_order []) named) ∙ front) in
+    let none = none_later (ps ++ (part c ∷ [])) (part d)
+    (sym (ap (out_of_order []) named) ∙ front) in
     let parts = or_parts (has_later (part d) ps) (nat_lt (part d) (part c) || false)
     (sym (has-append (part d) ps (part c ∷ [])) ∙ none) in
     ltb-false (part d) (part c) (or_parts (nat_lt (part d) (part c)) false parts.1).0

@@ -23,8 +23,8 @@ pub record Advances (u : Use) (p q : Pattern) : Type 0 where
   pub same : standard_form q ≡ standard_form p
   pub alike : (half : ℕ) → 0 < half → (o : Bits) → AlikeBranches (ring half) p o q o
 
--- what the rewriter keeps: a valid pattern with angles in steps of which `half` make half a turn, and
--- how far its commands are in order and settled
+-- what the rewriter keeps: a valid pattern, with angles in steps of which `half` make half a turn,
+-- and how far its commands are in order and settled
 pub record IsRewriting (half : ℕ) (p : Pattern) (ordered settled : ℕ) : Type 0 where
   pub valid : IsValidPattern p
   pub typed : AllTyped half p.commands

@@ -221,8 +221,8 @@ pub(crate) fn settle_two<const H: usize>(
     }
 }
 
-/// How a command is brought nearer to the standard form, if it is an entangling whose first operand is the higher or a correction
-/// that never acts.
+/// How a command is brought nearer to the standard form: an entangling whose first operand is the higher is turned, a
+/// correction that never acts vanishes.
 pub(crate) fn settle_one<const H: usize>(c: &Command<H>) -> Option<Rewrite<H>>
     ensures { MatchOption result
         (OperandsDiffer (plain_command c.now) → IsTidy (plain_command c.now))

@@ -97,8 +97,8 @@ impl<const H: usize> Rewriter<H> {
         self.commands.as_slice()
     }
 
-    /// Uses a rule at a place where it brings the pattern nearer to its standard form, and tells where. `None` where the pattern
-    /// is its own standard form. Then, and without memory, nothing changes.
+    /// Uses a rule at a place where it brings the pattern nearer to its standard form, and tells where. `None` where the
+    /// pattern is its own standard form. Then, and without memory, nothing changes.
     pub fn step(&mut self) -> Result<Option<Use>, Memory>
         ensures used { IfOk result (λ used.
             IfSome used (λ u. Advances (plain_use u) self.old self.new)) }

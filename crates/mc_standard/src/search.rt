@@ -36,8 +36,8 @@ fn is_early<const H: usize>(commands: &[Command<H>], k: usize) -> bool
     k > 0 && part_of(&commands[k]) < part_of(&commands[k - 1])
 }
 
-/// Where the first command stands that is of an earlier part than the one before it, or the length, if there is none; the parts are
-/// in order as far as `from`.
+/// Where the first command stands that is of an earlier part than the one before it, or the length, if there is none.
+/// The parts are in order as far as `from`.
 pub(crate) fn first_early<const H: usize>(commands: &[Command<H>], from: usize) -> usize
     requires within { from ≤ length commands.now }
     requires in_order { InOrder (take from (map plain_command commands.now)) }
@@ -71,7 +71,8 @@ pub(crate) fn pass_at<const H: usize>(
     Ok(rule)
 }
 
-/// Brings the command at `k` nearer to the standard form, if there is something to do. Else, and without memory, nothing changes.
+/// Brings the command at `k` nearer to the standard form, if there is something to do. Else, and without memory, nothing
+/// changes.
 fn settle_one_at<const H: usize>(
     commands: &mut Vec<Command<H>>,
     k: usize,
@@ -91,8 +92,8 @@ fn settle_one_at<const H: usize>(
     Ok(Some(rule))
 }
 
-/// Brings the commands at `k` and `k + 1` nearer to the standard form, if there is something to do. Else, and without memory,
-/// nothing changes.
+/// Brings the commands at `k` and `k + 1` nearer to the standard form, if there is something to do. Else, and without
+/// memory, nothing changes.
 fn settle_two_at<const H: usize>(
     commands: &mut Vec<Command<H>>,
     k: usize,
@@ -112,8 +113,8 @@ fn settle_two_at<const H: usize>(
     Ok(Some(rule))
 }
 
-/// Uses a rule on the command at `k`, or on it and the one before it, if there is something to do. Else, and without memory,
-/// nothing changes.
+/// Uses a rule on the command at `k`, or on it and the one before it, if there is something to do. Else, and without
+/// memory, nothing changes.
 fn settle_at<const H: usize>(
     commands: &mut Vec<Command<H>>,
     k: usize,
@@ -142,8 +143,8 @@ fn settle_at<const H: usize>(
     }
 }
 
-/// Uses a rule at the first place where there is something to do, if there is one, in a list whose parts are in order and which
-/// is settled as far as `from`. Else, and without memory, nothing changes.
+/// Uses a rule at the first place where there is something to do, if there is one. The parts of the list are in order,
+/// and it is settled as far as `from`. Else, and without memory, nothing changes.
 pub(crate) fn settle_from<const H: usize>(
     commands: &mut Vec<Command<H>>,
     from: usize,

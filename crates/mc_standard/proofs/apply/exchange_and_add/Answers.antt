@@ -7,5 +7,6 @@ use Rattle.mc_standard.proofs.apply.exchange_and_add.Goals as goal
 
 pub returns-clause-ok : goal.returns-clause-ok
 returns-clause-ok g c =
-    added_at (plain_command {h = g.row.H}) (changed {h = g.row.H} (change.Add c.args.command)) _ _ _ _ _
-    (λ x y e. refl) (omega arith) c.in-Ok.ensures.items c.swap.ensures.items
+    let made = changed {h = g.row.H} (change.Add c.args.command) in
+    added_at (plain_command {h = g.row.H}) made _ _ _ _ _ (λ x y e. refl) (omega arith)
+    c.in-Ok.ensures.items c.swap.ensures.items
