@@ -1,6 +1,7 @@
 pub mod Carried
 pub mod Derives
 pub mod KeptPatterns
+pub mod Edits
 pub mod ExchangeLaws
 pub mod Frames
 pub mod InPlaceLemmas
@@ -9,6 +10,8 @@ pub mod LocalLaws
 pub mod Moves
 pub mod OnePass
 pub mod Orders
+pub mod Picks
+pub mod Placed
 pub mod PlaceSums
 pub mod RankFalls
 pub mod RuleSums
@@ -19,6 +22,7 @@ pub mod SettledForm
 pub mod Settles
 pub mod StandardAlike
 pub mod UsesLeft
+pub mod Walks
 pub mod WrongPairs
 pub mod InParts
 pub mod CodeParts

@@ -1,0 +1,20 @@
+use Rattle.std.proofs.Common.{◌+◌, refl, arith}
+use Rattle.std.proofs.lemmas.List.{length-map}
+use Rattle.mc_pattern.specs.Commands.{plain_command}
+use Rattle.mc_standard.proofs.Placed.{settled_two_at, follows_at, read_at}
+use Rattle.mc_standard.proofs.search.settle_two_at.Goals as goal
+
+pub returns-in_default-clause-settles : goal.returns-in_default-clause-settles
+returns-in_default-clause-settles g c = (
+  refl,
+  follows_at _ c.args.k (plain_command c.index.result.now) (plain_command c.index-2.result.now)
+      (read_at (plain_command {h = g.row.H}) c.args.commands.now.items c.args.k c.index.result.now c.index.ensures) (read_at (plain_command {h = g.row.H}) c.args.commands.now.items (c.args.k + 1) c.index-2.result.now c.index-2.ensures)
+      (rw c.in_default.is at c.in_ok-rule.ensures),
+)
+
+pub returns-clause-settles : goal.returns-clause-settles
+returns-clause-settles g c = settled_two_at c.in-Some.field-0 _ _ c.args.k
+    (plain_command c.index.result.now) (plain_command c.index-2.result.now)
+    (rw length-map (omega arith)) (read_at (plain_command {h = g.row.H}) c.args.commands.now.items c.args.k c.index.result.now c.index.ensures)
+    (read_at (plain_command {h = g.row.H}) c.args.commands.now.items (c.args.k + 1) c.index-2.result.now c.index-2.ensures) (rw c.in-Some.is at c.in_ok-rule.ensures)
+    c.in_ok-apply.ensures.ok
