@@ -1,3 +1,4 @@
+pub mod Advance
 pub mod Carried
 pub mod Derives
 pub mod KeptPatterns

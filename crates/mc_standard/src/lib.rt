@@ -14,6 +14,8 @@ mod rule;
 mod search;
 mod standard;
 mod standardisation;
+#[cfg(test)]
+mod tests;
 
 pub use laws::{
     derivations_keep_patterns, standard_is_alike, standard_is_standard, step_is_alike,

@@ -99,10 +99,7 @@ fn pass_z<const H: usize>(q: u16, r: &Signal, d: &Command<H>) -> Result<Rewrite<
 }
 
 /// How a command is passed by the one behind it, which is of an earlier part.
-pub(crate) fn pass<const H: usize>(
-    c: &Command<H>,
-    d: &Command<H>,
-) -> Result<Rewrite<H>, Memory>
+pub(crate) fn pass<const H: usize>(c: &Command<H>, d: &Command<H>) -> Result<Rewrite<H>, Memory>
     ensures { IfOk result (λ rewrite. Passes rewrite (plain_command c.now) (plain_command d.now)) }
 {
     match c {
@@ -210,7 +207,7 @@ pub(crate) fn settle_two<const H: usize>(
 ) -> Result<Option<Rewrite<H>>, Memory>
     ensures { IfOk result (λ found. MatchOption found
         (part (plain_command c.now) ≤ part (plain_command d.now) →
-            Follows (plain_command c.now) (plain_command d.now))
+        Follows (plain_command c.now) (plain_command d.now))
         (λ rewrite. SettlesTwo rewrite (plain_command c.now) (plain_command d.now))) }
 {
     match c {

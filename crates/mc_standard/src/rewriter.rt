@@ -45,7 +45,7 @@ impl<const H: usize> Model for Rewriter<H> {
 
     ghost invariant = { λ r.
         IsValidPattern (with_outputs (begun r.names r.inputs (map plain_command r.commands.items))
-            r.outs.items)
+        r.outs.items)
         × IsDone (map plain_command r.commands.items) r.ordered r.settled };
 }
 

@@ -35,8 +35,8 @@ returns-in_default g c =
       | in_default-via-in-Meas+else-i-q-2 w ↦
           (missed_measure _ _ _ _ _ _ w.in-Meas.is w.if-i-q-2.false, tt)
       | in_default-via-in_default w ↦ (
-          missed_z c.args.q c.args.r.now c.args.d.now w.in_default.not-Ent w.in_default.not-Meas
-              may early,
-          tt,
-        )
+        missed_z c.args.q c.args.r.now c.args.d.now w.in_default.not-Ent w.in_default.not-Meas
+            may early,
+        tt,
+      )
     ])
