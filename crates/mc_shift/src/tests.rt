@@ -1,7 +1,7 @@
 use super::*;
 use mc_model::Memory;
 use mc_pattern::{Angle, Builder, Command, Name, Names, Pattern, Signal};
-use mc_standard::{Fix, Measure, standardise};
+use mc_standard::{Fix, standardise};
 use std::alloc::Global;
 use std::process::Abort;
 use std::test::Fail;
@@ -62,12 +62,10 @@ fn shifts_three_j(rt: HostRuntime) -> Result<(), Fail> {
     let standard = standardise(alloc, &three_j(&rt, alloc)?)?;
     let (shifted, change) = shift(alloc, &standard)?;
     match shifted.measures() {
-        [Measure { q: 0, s: s1, t: t1, .. }, Measure {
-            q: 1, s: s2, t: t2, ..
-        }, Measure { q: 2, s: s3, t: t3, .. }] => {
-            assert!(rt; s1.is_empty() && t1.is_empty());
-            assert!(rt; s2.has(0) && !s2.has(1) && t2.is_empty());
-            assert!(rt; s3.has(1) && !s3.has(0) && t3.is_empty());
+        [a, b, c] => {
+            assert!(rt; a.q == 0 && a.angle.steps() == 7 && a.s.is_empty() && a.t.is_empty());
+            assert!(rt; b.q == 1 && b.s.has(0) && !b.s.has(1) && b.t.is_empty());
+            assert!(rt; c.q == 2 && c.s.has(1) && !c.s.has(0) && c.t.is_empty());
         }
         _ => assert!(rt; false),
     }

@@ -63,14 +63,9 @@ fn standardises_two_j(rt: HostRuntime) -> Result<(), Fail> {
     assert_eq!(rt; standard.preps(), [1, 2].as_slice());
     assert_eq!(rt; standard.edges(), [(0, 1), (1, 2)].as_slice());
     match standard.measures() {
-        [Measure { q: 0, angle, s, t }, Measure {
-            q: 1,
-            angle: next,
-            s: first,
-            t: second,
-        }] => {
-            assert!(rt; angle.steps() == 7 && s.is_empty() && t.is_empty());
-            assert!(rt; next.steps() == 6 && first.has(0) && second.is_empty());
+        [a, b] => {
+            assert!(rt; a.q == 0 && a.angle.steps() == 7 && a.s.is_empty() && a.t.is_empty());
+            assert!(rt; b.q == 1 && b.angle.steps() == 6 && b.s.has(0) && b.t.is_empty());
         }
         _ => assert!(rt; false),
     }

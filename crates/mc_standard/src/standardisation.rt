@@ -114,10 +114,7 @@ fn standard_of<const H: usize>(
 
 /// The standard form of a pattern: the same names and outputs, and of the commands the closed sums (Danos, Kashefi and
 /// Panangaden 2007). At every outcome list its branch map is that of the pattern, up to one phase.
-pub fn standardise<const H: usize>(
-    alloc: Global,
-    p: &Pattern<H>,
-) -> Result<Standard<H>, Memory>
+pub fn standardise<const H: usize>(alloc: Global, p: &Pattern<H>) -> Result<Standard<H>, Memory>
     ensures form { IfOk result (λ standard. standard ≡ standard_form p.now) }
     ensures alike { IfOk result (λ standard. (half : ℕ) → 0 < half → (o : Bits) →
         AlikeBranches (ring half) p.now o standard o) }
@@ -128,6 +125,12 @@ pub fn standardise<const H: usize>(
     'uses: while rewriter.step()?.is_some() {}
     let names = rewriter.names().copy()?;
     let commands = rewriter.commands();
-    let standard = standard_of(alloc, names, rewriter.inputs(), commands, rewriter.outputs())?;
+    let standard = standard_of(
+        alloc,
+        names,
+        rewriter.inputs(),
+        commands,
+        rewriter.outputs(),
+    )?;
     Ok(standard)
 }
