@@ -4,6 +4,8 @@
 mod apply;
 mod change;
 mod copy;
+#[cfg(test)]
+mod form_tests;
 mod laws;
 mod listing;
 mod pick;
@@ -22,3 +24,4 @@ pub use laws::{
 pub use rewriter::Rewriter;
 pub use rule::{Rule, Use};
 pub use standard::{Fix, Measure, Standard};
+pub use standardisation::standardise;
