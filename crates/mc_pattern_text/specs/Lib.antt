@@ -1,2 +1,9 @@
 pub mod Canonical
 pub mod Written
+pub mod ChangeRoles
+pub mod ChangeRows
+pub mod ChangeValue
+pub mod ChangeJudge
+pub mod ChangePlaces
+pub mod ChangeKept
+pub mod ChangeCanonical

@@ -1,8 +1,16 @@
 //! The text of patterns.
 #![tactic(auto)]
 
+mod change_places;
+mod change_read;
+mod change_reader;
+mod change_section;
+mod change_steps;
 mod print;
+
 #[cfg(test)]
 mod tests;
 
+pub use change_read::read_change;
 pub use print::print_pattern;
+
