@@ -8,3 +8,4 @@ mod ChangeLines
 mod ChangeOrder
 pub mod NoLimits
 mod ChangeReading
+mod ChangePrinting

@@ -1,5 +1,5 @@
 -- The changes of a pattern's outcomes.
-use Rattle.std.specs.Prelude.{◌≡◌, ℕ, true, List, [], ◌∷◌, map, filter_map, take, slice_get, Some, ⊤}
+use Rattle.std.specs.Prelude.{◌≡◌, ℕ, ◌<◌, All, true, List, [], ◌∷◌, map, filter_map, take, slice_get, Some, ⊤}
 use Rattle.mc_model.specs.Numbers.{is_member}
 use Rattle.mc_model.specs.Shift.{ChangeRow}
 use Rattle.mc_model.specs.Pattern.{Command, Pattern}
@@ -23,6 +23,14 @@ AreEarlier order rows = (i : ℕ) (row : ChangeRow) → slice_get rows i ≡ Som
 pub record IsChangeOf (p : Pattern) (rows : List ChangeRow) : Type 0 where
   pub qubits : qubits_of rows ≡ measured_order p.commands
   pub earlier : AreEarlier (measured_order p.commands) rows
+
+-- the qubit of a row and the members of its signal are below `n`
+pub record IsRowNamed (n : ℕ) (row : ChangeRow) : Type 0 where
+  pub qubit : row.qubit < n
+  pub members : All (λ q. q < n) row.signal.members
+
+abbrev pub AreRowsNamed : ℕ → List ChangeRow → Type 0
+AreRowsNamed n rows = (i : ℕ) (row : ChangeRow) → slice_get rows i ≡ Some row → IsRowNamed n row
 
 -- what the types of the code say of the rows
 abbrev pub AllPlain : List ChangeRow → Type 0

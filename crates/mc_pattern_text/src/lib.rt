@@ -2,15 +2,16 @@
 #![tactic(auto)]
 
 mod change_places;
+mod change_print;
 mod change_read;
 mod change_reader;
 mod change_section;
 mod change_steps;
 mod print;
-
 #[cfg(test)]
 mod tests;
 
+pub use change_print::print_change;
 pub use change_read::read_change;
 pub use print::print_pattern;
 
