@@ -9,3 +9,4 @@ mod ChangeOrder
 pub mod NoLimits
 mod ChangeReading
 mod ChangePrinting
+mod ChangeReadBack
