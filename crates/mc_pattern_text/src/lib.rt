@@ -8,6 +8,8 @@ mod change_read;
 mod change_reader;
 mod change_section;
 mod change_steps;
+#[cfg(test)]
+mod change_tests;
 mod print;
 #[cfg(test)]
 mod tests;
@@ -16,4 +18,3 @@ pub use change_laws::{change_texts_are_read, change_texts_differ};
 pub use change_print::print_change;
 pub use change_read::read_change;
 pub use print::print_pattern;
-
