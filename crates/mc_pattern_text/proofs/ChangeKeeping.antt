@@ -23,7 +23,8 @@ use Rattle.mc_text.proofs.Kept.{count_at, count_some, operand_at-word}
 use Rattle.mc_pattern_text.specs.declared.change_reader.ChangeReader.{ChangeReader}
 use Rattle.mc_pattern_text.specs.ChangeRoles.{may_follow, role_of, record_word, is_row}
 use Rattle.mc_pattern_text.specs.ChangeRows.{qubits_of, AreEarlier}
-use Rattle.mc_pattern_text.specs.ChangeValue.{SpelledRow, spelled_row, spelled_rows, row_by, rows_of, signal_by}
+use Rattle.mc_pattern_text.specs.ChangeValue.{SpelledRow, spelled_row, spelled_rows, row_by, rows_of}
+use Rattle.mc_pattern_text.specs.Value.{signal_by}
 use Rattle.mc_pattern_text.specs.ChangeJudge.{judge_by, lacks_by, members_in, rules_by}
 use Rattle.mc_pattern_text.specs.ChangeKept.{IsSignalOf, IsEarlier, IsChangeKept, RowMoves, RowEnds, SameRows, added_member, row_here}
 

@@ -1,13 +1,12 @@
 -- Every qubit that a command of a valid pattern names has a name.
-use Rattle.std.proofs.Common.{◌≡◌, ℕ, suc, ◌+◌, ◌<◌, ◌≤◌, Bool, true, false, ◌||◌, List, [], ◌∷◌, ◌++◌, refl, sym, subst, ◌∙◌, ap, append_assoc, arith, inl, inr, length}
+use Rattle.std.proofs.Common.{◌≡◌, ℕ, ◌+◌, ◌<◌, ◌≤◌, true, List, [], ◌∷◌, ◌++◌, refl, sym, ◌∙◌, ap, append_assoc, arith, inl, inr, length}
 use Rattle.std.specs.List.{AllByRecursion}
 use Rattle.std.specs.Prelude.{nat_eq, All}
 use Rattle.std.proofs.lemmas.Bool.{eqb-true, cases_Bool}
 use Rattle.std.proofs.lemmas.List.Elements.{All-from_recursion}
-use Rattle.mc_model.specs.Bits.{Bits}
 use Rattle.mc_model.specs.Signals.{Signal}
 use Rattle.mc_model.specs.Pattern.{Command, Prep, Ent, Meas, FixX, FixZ, Pattern}
-use Rattle.mc_model.specs.Valid.{AllDone, FitsBehind, IsLive, IsValid, IsValidPattern, SignalFits, measured, prepared}
+use Rattle.mc_model.specs.Valid.{AllDone, IsValid, IsValidPattern, SignalFits, measured, prepared}
 use Rattle.mc_model.proofs.ValidLemmas.{prepared-append, moved_on}
 use Rattle.mc_pattern_text.specs.Written.{IsNamed, AreNamed}
 

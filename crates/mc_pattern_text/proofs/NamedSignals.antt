@@ -17,7 +17,7 @@ use Rattle.mc_signal.proofs.Members.{toggled_all-single}
 use Rattle.mc_text.specs.Rules.{number_in}
 use Rattle.mc_text.proofs.Numbers.{held-place, listed-number}
 use Rattle.mc_text.proofs.Naming.{numbers-name_at, place-name_at}
-use Rattle.mc_pattern_text.specs.ChangeValue.{signal_by}
+use Rattle.mc_pattern_text.specs.Value.{signal_by}
 use Rattle.mc_pattern_text.specs.ChangeKept.{IsSignalOf}
 use Rattle.mc_pattern_text.proofs.RisingSets.{member_where, same_where, toggled_where, where_members}
 

@@ -14,7 +14,8 @@ use Rattle.mc_text.specs.Lists.{operand_at}
 use Rattle.mc_pattern_text.specs.declared.change_reader.ChangeReader.{ChangeReader}
 use Rattle.mc_pattern_text.specs.ChangeRoles.{role_of, is_row}
 use Rattle.mc_pattern_text.specs.ChangeRows.{qubits_of, AreEarlier}
-use Rattle.mc_pattern_text.specs.ChangeValue.{signal_by, rows_of}
+use Rattle.mc_pattern_text.specs.ChangeValue.{rows_of}
+use Rattle.mc_pattern_text.specs.Value.{signal_by}
 use Rattle.mc_pattern_text.specs.ChangeJudge.{judge_by, lacks_by, members_in, member_word}
 
 -- the names of a list are held, and these are their numbers as a set

@@ -1,11 +1,10 @@
 -- The change that lines spell, by filters and maps over them.
-use Rattle.std.specs.Prelude.{ℕ, List, [], ◌∷◌, false, map, length, filter_map, if◌then◌else◌, Option, None, Some}
-use Rattle.mc_model.specs.Numbers.{is_member, numbers_where}
-use Rattle.mc_model.specs.Signals.{Signal}
+use Rattle.std.specs.Prelude.{ℕ, List, [], ◌∷◌, map, filter_map, if◌then◌else◌, Option, None, Some}
 use Rattle.mc_model.specs.Shift.{ChangeRow}
 use Rattle.mc_text.specs.Heads.{head_of}
 use Rattle.mc_text.specs.Judged.{Words, Lines}
 use Rattle.mc_text.specs.Rules.{number_in}
+use Rattle.mc_pattern_text.specs.Value.{signal_by}
 use Rattle.mc_pattern_text.specs.ChangeRoles.{is_row}
 
 -- the words of a row: its qubit and the members of its signal
@@ -20,13 +19,6 @@ spelled_row _ = None
 
 abbrev pub spelled_rows : Lines → List SpelledRow
 spelled_rows lines = filter_map spelled_row lines
-
--- the signal whose members are the numbers of a list of names
-abbrev pub signal_by : List (List ℕ) → List (List ℕ) → Signal
-signal_by names list = record {
-  members = numbers_where (is_member (map (number_in names) list)) (length names);
-  constant = false;
-}
 
 -- the row, with the numbers of these names
 abbrev pub row_by : List (List ℕ) → SpelledRow → ChangeRow

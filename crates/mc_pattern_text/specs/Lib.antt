@@ -1,5 +1,10 @@
 pub mod Canonical
 pub mod Written
+pub mod Roles
+pub mod Value
+pub mod Judge
+pub mod Kept
+pub mod Samples
 pub mod ChangeRoles
 pub mod ChangeRows
 pub mod ChangeValue

@@ -11,6 +11,7 @@ mod change_steps;
 #[cfg(test)]
 mod change_tests;
 mod print;
+mod reader;
 #[cfg(test)]
 mod tests;
 

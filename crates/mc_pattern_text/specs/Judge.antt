@@ -1,0 +1,130 @@
+-- The rules and limits of a pattern's section.
+use Rattle.std.specs.Prelude.{ℕ, List, [], ◌∷◌, ◌++◌, drop, Bool, true, false, not, ◌&&◌, ◌||◌, nat_le, length, if◌then◌else◌, Option, None, Some}
+use Rattle.std.specs.List.{list_all}
+use Rattle.mc_model.specs.Names.{name_eq, is_held}
+use Rattle.mc_text.specs.declared.head.Head.{Head}
+use Rattle.mc_text.specs.declared.fault.Fault.TheVariants.{NotFixed, LineEnds, Surplus, Measured, SameOperand, NotMeasured, ListedTwice, OutputsLack}
+use Rattle.mc_text.specs.declared.point.Point.{Point}
+use Rattle.mc_text.specs.Heads.{head_of}
+use Rattle.mc_text.specs.Points.{mark_of, point_of}
+use Rattle.mc_text.specs.Judged.{Judgement, Words, Lines, Rules}
+use Rattle.mc_text.specs.Rules.{broken, passed, or_next, new_name, known_name, listed_name, angle_word}
+use Rattle.mc_text.specs.Lists.{names_in, names_at, operand_at, operands_at}
+use Rattle.mc_pattern_text.specs.Roles.{Role, record_word, input, prepared, operand, second, angle, opening, first_member, member, output, surplus, may_follow, role_of, is_defining, is_command, has_operand, is_measuring, is_correcting, is_output}
+use Rattle.mc_pattern_text.specs.Value.{is_first, is_second, words_under, spelled_commands}
+
+-- the names that earlier lines measure
+abbrev pub measured_in : Lines → List (List ℕ)
+measured_in before = operands_at 0 is_measuring before
+
+-- the names of the first signal of a line, and of the second
+abbrev pub first_signal : Words → Words
+first_signal here =
+    words_under is_first None (names_in is_measuring here) ++ drop 1 (names_in is_correcting here)
+
+abbrev pub second_signal : Words → Words
+second_signal here = words_under is_second None (names_in is_measuring here)
+
+-- whether a further word stands in the second signal of its line
+abbrev pub is_in_second : Point → Bool
+is_in_second p = is_measuring p.head && is_second p.mark
+
+-- what a word is judged by: the names that are defined, that were measured in earlier lines and that
+-- are listed as outputs, the first operand of its line, the members before it in its signal, and the
+-- number of commands in the lines before
+pub record Known : Type 0 where
+  pub names : List (List ℕ)
+  pub measured : List (List ℕ)
+  pub listed : List (List ℕ)
+  pub operand : Option (List ℕ)
+  pub members : List (List ℕ)
+  pub commands : ℕ
+
+abbrev pub known_at : Lines → Words → Known
+known_at before here = record {
+  names = names_at is_defining before here;
+  measured = measured_in before;
+  listed = names_at is_output before here;
+  operand = operand_at 0 has_operand here;
+  members =
+      if is_in_second (point_of before here) then second_signal here else first_signal here;
+  commands = length (spelled_commands before);
+}
+
+-- a qubit that was not measured
+abbrev pub still_name : List (List ℕ) → List (List ℕ) → List ℕ → Option Judgement
+still_name names measured word =
+    or_next (known_name names word) (broken ((is_held measured word, Measured) ∷ []))
+
+-- whether a word is the first operand
+abbrev pub is_same : Option (List ℕ) → List ℕ → Bool
+is_same None word = false
+is_same (Some first) word = name_eq first word
+
+abbrev pub second_name : List (List ℕ) → List (List ℕ) → Option (List ℕ) → List ℕ
+    → Option Judgement
+second_name names measured first word =
+    or_next (still_name names measured word) (broken ((is_same first word, SameOperand) ∷ []))
+
+abbrev pub output_name : List (List ℕ) → List (List ℕ) → List (List ℕ) → List ℕ → Option Judgement
+output_name names measured listed word =
+    or_next (still_name names measured word) (broken ((is_held listed word, ListedTwice) ∷ []))
+
+-- a member of a signal, behind others
+abbrev pub member_name : List (List ℕ) → List (List ℕ) → List (List ℕ) → List ℕ → Option Judgement
+member_name names measured members word =
+    or_next (listed_name names members word)
+    (broken ((not (is_held measured word), NotMeasured) ∷ []))
+
+-- a word that begins a signal
+abbrev pub opening_word : List ℕ → Option Judgement
+opening_word word =
+    broken ((not (is_first (mark_of word) || is_second (mark_of word)), NotFixed) ∷ [])
+
+abbrev pub first_member_word : List (List ℕ) → List (List ℕ) → List (List ℕ) → List ℕ
+    → Option Judgement
+first_member_word names measured members word =
+    if is_second (mark_of word) then None else member_name names measured members word
+
+-- a record word behind a line with the record word `last`, where there are so many commands
+abbrev pub next_record : Option Head → ℕ → List ℕ → Option Judgement
+next_record last commands word =
+    or_next (broken ((not (may_follow last (head_of word)), NotFixed) ∷ []))
+    (passed (is_command (head_of word) && nat_le 262144 commands) 3 262145)
+
+-- a word by its role
+abbrev pub judge_by : Known → Option Head → Role → List ℕ → Option Judgement
+judge_by k last record_word word = next_record last k.commands word
+judge_by k last input word = new_name k.names word
+judge_by k last prepared word = new_name k.names word
+judge_by k last operand word = still_name k.names k.measured word
+judge_by k last second word = second_name k.names k.measured k.operand word
+judge_by k last angle word = angle_word word
+judge_by k last opening word = opening_word word
+judge_by k last first_member word = first_member_word k.names k.measured k.members word
+judge_by k last member word = member_name k.names k.measured k.members word
+judge_by k last output word = output_name k.names k.measured k.listed word
+judge_by k last surplus word = broken ((true, Surplus) ∷ [])
+
+-- whether a qubit is measured or an output
+abbrev pub is_settled : List (List ℕ) → List (List ℕ) → List ℕ → Bool
+is_settled measured listed name = is_held measured name || is_held listed name
+
+-- the end of a line, by the role that a further word would have; no line is empty
+abbrev pub lacks_by : Known → Role → Option Judgement
+lacks_by k record_word = broken ((true, LineEnds) ∷ [])
+lacks_by k prepared = broken ((true, LineEnds) ∷ [])
+lacks_by k operand = broken ((true, LineEnds) ∷ [])
+lacks_by k second = broken ((true, LineEnds) ∷ [])
+lacks_by k angle = broken ((true, LineEnds) ∷ [])
+lacks_by k output =
+    broken ((not (list_all (is_settled k.measured k.listed) k.names), OutputsLack) ∷ [])
+lacks_by k _ = None
+
+abbrev pub pattern_rules : Rules
+pattern_rules = record {
+  judge = λ before here word.
+      let p = point_of before here in
+      judge_by (known_at before here) p.last (role_of p) word;
+  lacks = λ before here. lacks_by (known_at before here) (role_of (point_of before here));
+}
