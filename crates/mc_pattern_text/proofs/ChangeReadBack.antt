@@ -34,7 +34,7 @@ use Rattle.mc_pattern_text.specs.ChangeValue.{spelled_row, spelled_rows, row_by,
 use Rattle.mc_pattern_text.specs.ChangeJudge.{judge_by, lacks_by, members_in, rules_by, change_rules}
 use Rattle.mc_pattern_text.specs.ChangeCanonical.{row_line, change_lines, change_text}
 use Rattle.mc_pattern_text.specs.ChangeKept.{IsEarlier}
-use Rattle.mc_pattern_text.proofs.NamedSignals.{signal_back, member_free}
+use Rattle.mc_pattern_text.proofs.NamedSignals.{signal_back, member_free, names_written}
 use Rattle.mc_pattern_text.proofs.ChangeKeeping.{last_head-line}
 use Rattle.mc_pattern_text.proofs.ChangeOrder.{measured_named}
 use Rattle.mc_pattern_text.proofs.ChangePrinting.{rows_named}
@@ -189,15 +189,6 @@ change_clean p rows valid h plain =
     let place : 0 + i ≡ i = omega arith in rw place (rows_fit p rows valid h plain i row get))
 
 -- the canonical lines can be written
-names_written : (names : List Name) (qs : List ℕ) → AreNames names → All (λ q. q < length names) qs
-    → list_all is_written (map (name_at names) qs) ≡ true
-names_written names [] valid below = refl
-names_written names (q ∷ qs) valid below =
-    let lt : q < length names = below 0 q (omega arith) in
-    let name = name_written (name_at names q) (is_name-name_at names q valid lt) in
-    let rest = names_written names qs valid (λ k d l. below (suc k) d (omega arith)) in
-    rw (name, rest) refl
-
 rows_written : (names : List Name) (rows : List ChangeRow) → AreNames names
     → ((i : ℕ) (row : ChangeRow) → slice_get rows i ≡ Some row → IsRowNamed (length names) row)
     → list_all is_written_line (map (row_line names) rows) ≡ true
@@ -225,11 +216,9 @@ spelled_back names [] valid plain named = refl
 spelled_back names (row ∷ rows) valid plain named =
     let first = named 0 row refl in
     let number = number-name_at names row.qubit valid.distinct first.qubit in
-    let signal = signal_back names row.signal.members valid.distinct plain.0.is_set first.members in
+    let signal = signal_back names row.signal valid.distinct plain.0 first.members in
     let rest = spelled_back names rows valid plain.1 (λ i r get. named (suc i) r get) in
-    let same : record { members = row.signal.members; constant = false } ≡ row.signal =
-    ap (λ (b : Bool). record { members = row.signal.members; constant = b }) (sym plain.0.no_constant) in
-    rw (number, signal, same, rest) refl
+    rw (number, signal, rest) refl
 
 change_back : (p : Pattern) (rows : List ChangeRow) → IsValidPattern p → IsChangeOf p rows
     → AllPlain rows → rows_of p.names (change_lines p.names rows) ≡ rows

@@ -10,3 +10,8 @@ pub mod NoLimits
 mod ChangeReading
 mod ChangePrinting
 mod ChangeReadBack
+mod Under
+mod CleanCommands
+mod CleanLines
+mod CleanText
+mod ReadBack

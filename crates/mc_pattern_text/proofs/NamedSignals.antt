@@ -8,7 +8,7 @@ use Rattle.std.proofs.lemmas.List.Quantifiers.{position-Some}
 use Rattle.std.specs.List.{IsDistinct}
 use mathlib.Core.Path.{fun_ext}
 use Rattle.mc_model.specs.Bits.{◌⊻◌}
-use Rattle.mc_model.specs.Names.{name_eq, is_held, place_of}
+use Rattle.mc_model.specs.Names.{AreNames, name_eq, is_held, place_of}
 use Rattle.mc_model.specs.Numbers.{is_member, numbers_where}
 use Rattle.mc_model.specs.Signals.{Signal, signal_of, signal_sum, toggled, IsRising, AllAbove}
 use Rattle.mc_pattern.proofs.Members.{below_by}
@@ -16,7 +16,9 @@ use Rattle.mc_write.specs.Named.{name_at}
 use Rattle.mc_signal.proofs.Members.{toggled_all-single}
 use Rattle.mc_text.specs.Rules.{number_in}
 use Rattle.mc_text.proofs.Numbers.{held-place, listed-number}
-use Rattle.mc_text.proofs.Naming.{numbers-name_at, place-name_at}
+use Rattle.mc_text.proofs.Naming.{numbers-name_at, place-name_at, is_name-name_at, name_written}
+use Rattle.mc_text.proofs.Written.{is_written}
+use Rattle.mc_pattern.specs.Typed.{IsPlain}
 use Rattle.mc_pattern_text.specs.Value.{signal_by}
 use Rattle.mc_pattern_text.specs.ChangeKept.{IsSignalOf}
 use Rattle.mc_pattern_text.proofs.RisingSets.{member_where, same_where, toggled_where, where_members}
@@ -90,19 +92,32 @@ signal-joined names list signal signal' word q place is free sum =
         → is_member (map (number_in names) list) k ≡ false
     other k e absent = let same : k ≡ q = grind (arith, nat_tests) in rw same absent
 
--- the signal of the names that are written for its members
-pub signal_back : (names : List (List ℕ)) (qs : List ℕ) → IsDistinct name_eq names → IsRising qs
-    → All (λ q. q < length names) qs
-    → signal_by names (map (name_at names) qs) ≡ record { members = qs; constant = false }
-signal_back names qs distinct rising below =
+-- the names that are written for the members of a signal
+pub names_written : (names : List (List ℕ)) (qs : List ℕ) → AreNames names
+    → All (λ q. q < length names) qs → list_all is_written (map (name_at names) qs) ≡ true
+names_written names [] valid below = refl
+names_written names (q ∷ qs) valid below =
+    let lt : q < length names = below 0 q (omega arith) in
+    let name = name_written (name_at names q) (is_name-name_at names q valid lt) in
+    let rest = names_written names qs valid (λ k d l. below (suc k) d (omega arith)) in
+    rw (name, rest) refl
+
+-- are read back as the signal
+pub signal_back : (names : List (List ℕ)) (signal : Signal) → IsDistinct name_eq names
+    → IsPlain signal → All (λ q. q < length names) signal.members
+    → signal_by names (map (name_at names) signal.members) ≡ signal
+signal_back names signal distinct plain below =
+    let qs = signal.members in
     let are = numbers-name_at names qs distinct below in
     let same : numbers_where (is_member (map (number_in names) (map (name_at names) qs))) (length names)
     ≡ qs =
     rw (← are.numbers_are)
-    (where_members qs (length names) rising (λ k member. below_by (length names) qs k below member)) in
+    (where_members qs (length names) plain.is_set
+    (λ k member. below_by (length names) qs k below member)) in
     ap (λ (members : List ℕ). record { members = members; constant = false }) same
+    ∙ ap (λ (b : Bool). record { members = qs; constant = b }) (sym plain.no_constant)
 
-all_front : (n : ℕ) (xs ys : List ℕ) → All (λ q. q < n) (xs ++ ys) → All (λ q. q < n) xs
+pub all_front : (n : ℕ) (xs ys : List ℕ) → All (λ q. q < n) (xs ++ ys) → All (λ q. q < n) xs
 all_front n xs ys below k d lt =
     let len = length-append xs ys in
     rw (← get_or_append_left xs ys d k lt) (below k d (omega arith))

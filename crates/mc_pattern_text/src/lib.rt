@@ -10,6 +10,7 @@ mod change_section;
 mod change_steps;
 #[cfg(test)]
 mod change_tests;
+mod laws;
 mod print;
 mod reader;
 #[cfg(test)]
@@ -18,4 +19,5 @@ mod tests;
 pub use change_laws::{change_texts_are_read, change_texts_differ};
 pub use change_print::print_change;
 pub use change_read::read_change;
+pub use laws::{canonical_texts_are_read, canonical_texts_differ};
 pub use print::print_pattern;
