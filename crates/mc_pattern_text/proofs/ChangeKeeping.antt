@@ -1,17 +1,16 @@
 -- A word and a line of a change with nothing against them are kept.
-use Rattle.std.proofs.Common.{◌≡◌, ◌==◌, ℕ, zero, suc, ◌+◌, ◌<◌, ◌≤◌, Bool, true, false, not, ◌&&◌, List, [], ◌∷◌, ◌++◌, map, length, take, refl, sym, subst, ap, ◌∙◌, arith, nat_eq, nat_lt, nat_le, ne_eqb, Option, Some, None, slice_get, if◌then◌else◌, length-append, ◌⊎◌, inl, inr}
+use Rattle.std.proofs.Common.{◌≡◌, ◌==◌, ℕ, zero, suc, ◌≤◌, Bool, true, false, List, [], ◌∷◌, ◌++◌, map, length, take, refl, sym, ap, ◌∙◌, arith, nat_lt, nat_le, Option, Some, None, slice_get, if◌then◌else◌}
 use Rattle.std.specs.List.{filter_map, list_all}
-use Rattle.std.proofs.lemmas.Bool.{eq-eqb, eqb-true, true≢false, cases_eq}
+use Rattle.std.proofs.lemmas.Bool.{eq-eqb, eqb-true, true≢false}
 use Rattle.std.proofs.lemmas.Bool.Decides.{nat_tests}
-use Rattle.std.proofs.lemmas.List.{append-nil, map-append, length-map}
-use Rattle.std.proofs.lemmas.List.Elements.{filter_map-append}
+use Rattle.std.proofs.lemmas.List.{length-map}
 use Rattle.std.proofs.lemmas.List.Sums.{fold-append}
-use Rattle.mc_model.specs.Names.{is_held, place_of}
+use Rattle.mc_model.specs.Names.{place_of}
 use Rattle.mc_model.specs.Numbers.{is_member, numbers_where}
 use Rattle.mc_model.specs.Signals.{Signal, no_signal}
 use Rattle.mc_model.specs.Shift.{ChangeRow}
 use Rattle.mc_text.specs.declared.head.Head.{Head}
-use Rattle.mc_text.specs.declared.head.Head.TheVariants.{O, End}
+use Rattle.mc_text.specs.declared.head.Head.TheVariants.{O}
 use Rattle.mc_text.specs.declared.point.Point.{Point}
 use Rattle.mc_text.specs.Heads.{head_of, head_in, is_end}
 use Rattle.mc_text.specs.Points.{point_of, last_head}
@@ -19,14 +18,14 @@ use Rattle.mc_text.specs.Judged.{Words, Lines}
 use Rattle.mc_text.specs.Rules.{number_in}
 use Rattle.mc_text.specs.Lists.{operand_at, next_operand}
 use Rattle.mc_text.proofs.Going.{head_at}
-use Rattle.mc_text.proofs.Kept.{count_at, count_some, operand_at-word}
+use Rattle.mc_text.proofs.Kept.{count_at, operand_at-word}
 use Rattle.mc_pattern_text.specs.declared.change_reader.ChangeReader.{ChangeReader}
 use Rattle.mc_pattern_text.specs.ChangeRoles.{may_follow, role_of, record_word, is_row}
-use Rattle.mc_pattern_text.specs.ChangeRows.{qubits_of, AreEarlier}
-use Rattle.mc_pattern_text.specs.ChangeValue.{SpelledRow, spelled_row, spelled_rows, row_by, rows_of}
+use Rattle.mc_pattern_text.specs.ChangeRows.{qubits_of}
+use Rattle.mc_pattern_text.specs.ChangeValue.{spelled_row, spelled_rows, row_by}
 use Rattle.mc_pattern_text.specs.Value.{signal_by}
 use Rattle.mc_pattern_text.specs.ChangeJudge.{judge_by, lacks_by, members_in, rules_by}
-use Rattle.mc_pattern_text.specs.ChangeKept.{IsSignalOf, IsEarlier, IsChangeKept, RowMoves, RowEnds, SameRows, added_member, row_here}
+use Rattle.mc_pattern_text.specs.ChangeKept.{IsSignalOf, IsChangeKept, RowMoves, added_member, row_here}
 
 pub last_head-line : (before : Lines) (here : Words) → last_head (before ++ here ∷ []) ≡ head_in here
 last_head-line before here =

@@ -1,7 +1,6 @@
 -- The end of a line of a change with nothing against it is kept.
-use Rattle.std.proofs.Common.{◌≡◌, ℕ, zero, suc, ◌+◌, ◌<◌, ◌≤◌, Bool, true, false, List, [], ◌∷◌, ◌++◌, map, length, take, refl, sym, subst, ap, ◌∙◌, arith, Option, Some, None, slice_get, if◌then◌else◌, length-append, ◌⊎◌, inl, inr}
+use Rattle.std.proofs.Common.{◌≡◌, ℕ, zero, suc, Bool, true, false, List, [], ◌∷◌, ◌++◌, length, take, refl, sym, ap, ◌∙◌, arith, Option, Some, None, slice_get, length-append, ◌⊎◌, inl, inr}
 use Rattle.std.specs.List.{filter_map}
-use Rattle.std.proofs.lemmas.Bool.{true≢false}
 use Rattle.std.proofs.lemmas.List.{append-nil, map-append}
 use Rattle.std.proofs.lemmas.List.Elements.{filter_map-append}
 use Rattle.mc_model.specs.Names.{place_of}
@@ -11,8 +10,8 @@ use Rattle.mc_model.specs.Shift.{ChangeRow}
 use Rattle.mc_text.specs.declared.head.Head.{Head}
 use Rattle.mc_text.specs.declared.head.Head.TheVariants.{O}
 use Rattle.mc_text.specs.declared.point.Point.{Point}
-use Rattle.mc_text.specs.Heads.{head_of, head_in, is_end}
-use Rattle.mc_text.specs.Points.{point_of, last_head}
+use Rattle.mc_text.specs.Heads.{head_of}
+use Rattle.mc_text.specs.Points.{point_of}
 use Rattle.mc_text.specs.Judged.{Words, Lines}
 use Rattle.mc_text.specs.Lists.{operand_at}
 use Rattle.mc_text.proofs.Going.{head_at}

@@ -1,12 +1,12 @@
 -- What a member of a row does.
-use Rattle.std.proofs.Common.{◌≡◌, Result, OnOk, Ok, Err, ℕ, zero, suc, nat_le, ne_eqb, ◌<◌, ◌≤◌, Bool, true, false, not, ◌&&◌, ◌||◌, List, [], ◌∷◌, ◌++◌, map, length, take, refl, sym, ap, ◌∙◌, arith, nat_eq, nat_lt, Some, None, slice_index_or}
+use Rattle.std.proofs.Common.{◌≡◌, Result, OnOk, Ok, Err, ℕ, nat_le, ne_eqb, ◌<◌, ◌≤◌, Bool, true, false, List, map, length, take, refl, sym, ap, ◌∙◌, arith, nat_eq, nat_lt, Some, None, slice_index_or}
 use Rattle.std.proofs.lemmas.Bool.Decides.{nat_tests}
 use Rattle.std.proofs.lemmas.Bool.{cases_Bool}
 use mathlib.Core.Logic.{inl, inr}
 use Rattle.mc_model.specs.Bits.{◌⊻◌}
-use Rattle.mc_model.specs.Names.{is_name, is_held, place_of}
+use Rattle.mc_model.specs.Names.{is_held, place_of}
 use Rattle.mc_model.specs.Numbers.{is_member}
-use Rattle.mc_model.specs.Signals.{Signal, signal_of, signal_sum, toggled, IsRising}
+use Rattle.mc_model.specs.Signals.{Signal, signal_of, signal_sum, IsRising}
 use Rattle.mc_signal.proofs.Members.{toggled_all-single, is_member-toggled}
 use Rattle.mc_text.specs.declared.head.Head.TheVariants.{O}
 use Rattle.mc_text.specs.declared.point.Point.{Point}

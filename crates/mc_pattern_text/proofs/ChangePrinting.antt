@@ -1,9 +1,9 @@
 -- The canonical text of a change, part by part.
-use Rattle.std.proofs.Common.{◌≡◌, ℕ, zero, suc, ◌+◌, ◌<◌, ◌≤◌, Bool, true, false, ◌||◌, All, List, [], ◌∷◌, ◌++◌, length, map, take, get_or, codes, refl, sym, ap, ◌∙◌, append_assoc, arith, Some, None, slice_get, nat_eq}
-use Rattle.std.specs.List.{list_any, AllByRecursion}
+use Rattle.std.proofs.Common.{◌≡◌, ℕ, zero, suc, ◌+◌, ◌<◌, Bool, true, false, ◌||◌, List, [], ◌∷◌, ◌++◌, length, map, take, codes, refl, sym, ap, ◌∙◌, append_assoc, arith, Some, slice_get, nat_eq}
+use Rattle.std.specs.List.{AllByRecursion}
 use Rattle.std.proofs.lemmas.Bool.{eq-eqb}
 use Rattle.std.proofs.lemmas.Grind.{flat_map-append}
-use Rattle.std.proofs.lemmas.List.{append-nil, map-append, length-map}
+use Rattle.std.proofs.lemmas.List.{append-nil, map-append}
 use Rattle.std.proofs.lemmas.List.Elements.{All-from_recursion}
 use Rattle.std.proofs.lemmas.Option.{slice_get_within, get_or_from_slice_get}
 use Rattle.mc_write.specs.Text.{line_text, text_of}
@@ -13,7 +13,7 @@ use Rattle.mc_model.specs.Shift.{ChangeRow}
 use Rattle.mc_model.specs.Valid.{IsValidPattern}
 use Rattle.mc_pattern.proofs.Members.{below_by}
 use Rattle.mc_pattern_text.specs.ChangeCanonical.{row_line, change_text}
-use Rattle.mc_pattern_text.specs.ChangeRows.{IsChangeOf, IsRowNamed, AreRowsNamed, measured_order, qubits_of}
+use Rattle.mc_pattern_text.specs.ChangeRows.{IsChangeOf, AreRowsNamed, measured_order}
 use Rattle.mc_pattern_text.proofs.ChangeOrder.{measured_named}
 
 -- a member of the first numbers of a list is one of the list

@@ -1,42 +1,37 @@
 -- The canonical text of a change is read without a fault, as that change.
-use Rattle.std.proofs.Common.{◌≡◌, ℕ, zero, suc, ◌+◌, ◌<◌, ◌≤◌, Bool, true, false, not, ◌&&◌, ◌||◌, All, List, [], ◌∷◌, ◌++◌, length, map, take, codes, refl, sym, subst, ap, ◌∙◌, append_assoc, length-append, arith, eq-eqb, ne_eqb, nat_eq, nat_lt, nat_le, Option, Some, None, slice_get}
-use Rattle.std.specs.List.{filter_map, list_all, IsDistinct}
+use Rattle.std.proofs.Common.{◌≡◌, ℕ, zero, suc, ◌+◌, ◌<◌, Bool, true, false, ◌||◌, All, List, [], ◌∷◌, ◌++◌, length, map, take, codes, refl, sym, ap, ◌∙◌, append_assoc, length-append, arith, eq-eqb, ne_eqb, nat_eq, nat_lt, Some, slice_get}
+use Rattle.std.specs.List.{filter_map, list_all}
 use Rattle.std.proofs.lemmas.Bool.Decides.{nat_tests}
 use Rattle.std.proofs.lemmas.List.{map-append, append-nil, length-map}
 use Rattle.std.proofs.lemmas.List.Elements.{filter_map-append}
 use Rattle.std.proofs.lemmas.List.Folds.{list_all-append}
-use Rattle.std.proofs.lemmas.Option.{slice_get_within, get_or_from_slice_get}
-use Rattle.mc_lex.specs.Lines.{lines_of, end_of}
+use Rattle.mc_lex.specs.Lines.{end_of}
 use Rattle.mc_write.specs.Named.{name_at}
-use Rattle.mc_model.specs.Names.{Name, AreNames, name_eq, is_name, is_held}
+use Rattle.mc_model.specs.Names.{Name, AreNames}
 use Rattle.mc_model.specs.Numbers.{is_member}
 use Rattle.mc_model.specs.Pattern.{Pattern}
-use Rattle.mc_model.specs.Signals.{Signal, IsRising}
+use Rattle.mc_model.specs.Signals.{IsRising}
 use Rattle.mc_model.specs.Shift.{ChangeRow}
 use Rattle.mc_model.specs.Valid.{IsValidPattern}
 use Rattle.mc_pattern.proofs.Members.{below_by}
 use Rattle.mc_pattern.specs.Typed.{IsPlain}
-use Rattle.mc_text.specs.declared.head.Head.{Head}
 use Rattle.mc_text.specs.declared.head.Head.TheVariants.{O, End}
-use Rattle.mc_text.specs.Heads.{head_of, head_in}
 use Rattle.mc_text.specs.Points.{point_of, last_head}
-use Rattle.mc_text.specs.Judged.{Words, Lines, Rules, section_lines}
-use Rattle.mc_text.specs.Rules.{number_in}
+use Rattle.mc_text.specs.Judged.{Words, Lines, section_lines}
 use Rattle.mc_text.proofs.Going.{head_at}
 use Rattle.mc_text.proofs.Kept.{count_at}
 use Rattle.mc_text.proofs.Clean.{CleanWords, Clean, last, more, IsRead, written_read}
 use Rattle.mc_text.proofs.Naming.{number-name_at, held-name_at, is_name-name_at, name_written}
-use Rattle.mc_text.proofs.Written.{is_written, is_written_line}
+use Rattle.mc_text.proofs.Written.{is_written_line}
 use Rattle.mc_pattern_text.specs.Canonical.{behind_header}
 use Rattle.mc_pattern_text.specs.ChangeRoles.{may_follow, role_of, member}
 use Rattle.mc_pattern_text.specs.ChangeRows.{IsChangeOf, IsRowNamed, AllPlain, measured_order, qubits_of}
 use Rattle.mc_pattern_text.specs.ChangeValue.{spelled_row, spelled_rows, row_by, rows_of}
-use Rattle.mc_pattern_text.specs.ChangeJudge.{judge_by, lacks_by, members_in, rules_by, change_rules}
+use Rattle.mc_pattern_text.specs.ChangeJudge.{rules_by, change_rules}
 use Rattle.mc_pattern_text.specs.ChangeCanonical.{row_line, change_lines, change_text}
 use Rattle.mc_pattern_text.specs.ChangeKept.{IsEarlier}
 use Rattle.mc_pattern_text.proofs.NamedSignals.{signal_back, member_free, names_written}
 use Rattle.mc_pattern_text.proofs.ChangeKeeping.{last_head-line}
-use Rattle.mc_pattern_text.proofs.ChangeOrder.{measured_named}
 use Rattle.mc_pattern_text.proofs.ChangePrinting.{rows_named}
 
 -- a row that may stand at a place

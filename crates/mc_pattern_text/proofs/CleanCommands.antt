@@ -1,45 +1,30 @@
 -- Nothing is against the lines of the commands of a pattern's canonical text.
-use Rattle.std.proofs.Common.{◌≡◌, ℕ, zero, suc, ◌+◌, ◌*◌, ◌<◌, ◌≤◌, Bool, true, false, not, ◌&&◌, ◌||◌, All, List, [], ◌∷◌, ◌++◌, length, map, take, drop, fold, filter_map, codes, refl, sym, subst, ap, ◌∙◌, append_assoc, length-append, arith, eq-eqb, ne_eqb, nat_eq, nat_lt, nat_le, Option, Some, None, slice_get, get_or, unwrap_or, IsTrue, if◌then◌else◌}
-use Rattle.std.specs.Fmt.{decimal}
-use Rattle.std.specs.List.{list_all, list_any, IsDistinct, AllByRecursion}
-use Rattle.std.specs.Option.{option_or}
+use Rattle.std.proofs.Common.{◌≡◌, ℕ, zero, suc, ◌+◌, ◌<◌, ◌≤◌, Bool, true, false, ◌||◌, All, List, [], ◌∷◌, ◌++◌, length, map, take, drop, refl, sym, ap, ◌∙◌, append_assoc, arith, eq-eqb, nat_eq, nat_le, Option, None}
+use Rattle.std.specs.List.{IsDistinct, AllByRecursion}
 use Rattle.std.proofs.lemmas.Bool.{eqb-true}
 use Rattle.std.proofs.lemmas.Bool.Decides.{nat_tests}
-use Rattle.std.proofs.lemmas.List.{map-append, append-nil, take-append-drop, length-take-le, get_or-take}
-use Rattle.std.proofs.lemmas.List.Elements.{filter_map-append, All-from_recursion}
-use Rattle.std.proofs.lemmas.Option.{unwrap_or-slice_get}
-use Rattle.mc_model.specs.Names.{Name, AreNames, name_eq, is_name, is_held, place_of}
+use Rattle.std.proofs.lemmas.List.{map-append, append-nil, take-append-drop, length-take-le}
+use Rattle.std.proofs.lemmas.List.Elements.{All-from_recursion}
+use Rattle.mc_model.specs.Names.{Name, AreNames, name_eq, is_held}
 use Rattle.mc_model.specs.Numbers.{is_member}
 use Rattle.mc_model.specs.Pattern.{Command, Prep, Ent, Meas, FixX, FixZ}
 use Rattle.mc_model.specs.Signals.{Signal, IsRising}
-use Rattle.mc_model.specs.Steps.{is_permitted}
-use Rattle.mc_model.specs.Valid.{IsLive, SignalFits, FitsBehind, AllDone, measured, prepared}
-use Rattle.mc_model.proofs.ValidLemmas.{prepared-append}
-use Rattle.mc_angle.proofs.Numerals.{angle-decimal, number-decimal}
-use Rattle.mc_pattern.specs.Rules.{measured_by}
-use Rattle.mc_pattern.specs.Typed.{IsTyped, IsPlain}
+use Rattle.mc_model.specs.Valid.{IsLive, SignalFits, AllDone, measured, prepared}
 use Rattle.mc_pattern.proofs.Members.{below_by}
 use Rattle.mc_write.specs.Named.{name_at}
 use Rattle.mc_text.specs.declared.head.Head.{Head}
-use Rattle.mc_text.specs.declared.head.Head.TheVariants.{M}
-use Rattle.mc_text.specs.declared.point.Mark.{Mark}
-use Rattle.mc_text.specs.declared.point.Mark.TheVariants.{S, T}
-use Rattle.mc_text.specs.Heads.{head_of, head_in, is_end}
-use Rattle.mc_text.specs.Points.{mark_of, point_of, last_head}
+use Rattle.mc_text.specs.Heads.{head_of}
+use Rattle.mc_text.specs.Points.{last_head}
 use Rattle.mc_text.specs.Judged.{Words, Lines}
-use Rattle.mc_text.specs.Rules.{known_name, number_in}
-use Rattle.mc_text.specs.Lists.{names_in, names_at, operand_at}
-use Rattle.mc_text.proofs.Going.{head_at}
-use Rattle.mc_text.proofs.Kept.{count_at, name_no_mark}
+use Rattle.mc_text.specs.Rules.{known_name}
+use Rattle.mc_text.specs.Lists.{names_at}
 use Rattle.mc_text.proofs.Clean.{CleanWords}
-use Rattle.mc_text.proofs.Naming.{held-name_at, is_name-name_at, numbers-name_at, place-name_at, distinct_front, names_apart}
-use Rattle.mc_pattern_text.specs.Roles.{may_follow, role_in, role_of, role_behind, member, follows_command, is_command, is_defining, is_measuring, is_output, has_operand}
-use Rattle.mc_pattern_text.specs.Value.{is_first, is_second, word_under, words_under, spelled_command, spelled_commands}
-use Rattle.mc_pattern_text.specs.Judge.{Known, known_at, measured_in, first_signal, second_signal, is_in_second, still_name, member_name, next_record, judge_by, pattern_rules}
-use Rattle.mc_pattern_text.specs.Canonical.{marked, command_line}
+use Rattle.mc_text.proofs.Naming.{held-name_at, is_name-name_at, numbers-name_at, place-name_at}
+use Rattle.mc_pattern_text.specs.Roles.{may_follow, follows_command, is_command, is_defining, is_output}
+use Rattle.mc_pattern_text.specs.Value.{spelled_commands}
+use Rattle.mc_pattern_text.specs.Judge.{measured_in, still_name, member_name, next_record, pattern_rules}
 use Rattle.mc_pattern_text.specs.ChangeRows.{measured_order}
 use Rattle.mc_pattern_text.proofs.NamedSignals.{member-listed, member_free, all_front}
-use Rattle.mc_pattern_text.proofs.Under.{onto_mark, mark_at}
 
 -- the first names of a list
 pub front_at : (ns : List Name) (m q : ℕ) → q < m → name_at (take m ns) q ≡ name_at ns q

@@ -1,42 +1,39 @@
 -- Nothing is against the lines of a pattern's canonical text.
-use Rattle.std.proofs.Common.{◌≡◌, ℕ, zero, suc, ◌+◌, ◌*◌, ◌<◌, ◌≤◌, Bool, true, false, not, ◌&&◌, ◌||◌, All, List, [], ◌∷◌, ◌++◌, length, map, take, drop, fold, codes, refl, sym, subst, ap, ◌∙◌, append_assoc, length-append, arith, eq-eqb, ne_eqb, nat_eq, nat_lt, nat_le, ◌⊎◌, Option, Some, None, IsTrue, if◌then◌else◌}
+use Rattle.std.proofs.Common.{◌≡◌, ℕ, suc, ◌+◌, ◌*◌, ◌<◌, ◌≤◌, Bool, true, false, ◌&&◌, All, List, [], ◌∷◌, ◌++◌, length, map, take, drop, fold, codes, refl, sym, subst, ap, ◌∙◌, append_assoc, arith, ne_eqb, nat_le, ◌⊎◌, Option, Some, None, IsTrue, if◌then◌else◌}
 use Rattle.std.specs.Fmt.{decimal}
-use Rattle.std.specs.List.{filter_map, list_all}
+use Rattle.std.specs.List.{list_all}
 use Rattle.std.specs.Option.{option_or}
 use Rattle.std.proofs.lemmas.List.Sums.{fold-append}
 use mathlib.Core.Logic.{inl, inr}
 use Rattle.mc_angle.specs.Number.{is_number, is_digit}
 use Rattle.std.proofs.lemmas.Bool.{eqb-true}
 use Rattle.std.proofs.lemmas.Bool.Decides.{nat_tests}
-use Rattle.std.proofs.lemmas.List.{append-nil, map-append, length-take-le, take-append-drop}
-use Rattle.std.proofs.lemmas.List.Elements.{filter_map-append}
-use Rattle.mc_model.specs.Names.{Name, AreNames, name_eq, is_name, is_name_byte, is_held}
+use Rattle.std.proofs.lemmas.List.{append-nil, length-take-le}
+use Rattle.mc_model.specs.Names.{Name, AreNames, is_name, is_name_byte}
 use Rattle.mc_model.specs.Pattern.{Command, Prep, Ent, Meas, FixX, FixZ}
-use Rattle.mc_model.specs.Signals.{Signal}
 use Rattle.mc_model.specs.Steps.{is_permitted}
-use Rattle.mc_model.specs.Valid.{IsLive, SignalFits, FitsBehind, measured, prepared}
+use Rattle.mc_model.specs.Valid.{FitsBehind, prepared}
 use Rattle.mc_model.proofs.ValidLemmas.{prepared-append}
 use Rattle.mc_angle.proofs.Numerals.{angle-decimal, number-decimal}
 use Rattle.mc_pattern.specs.Typed.{IsTyped}
 use Rattle.mc_write.specs.Named.{name_at}
-use Rattle.mc_text.specs.declared.head.Head.{Head}
 use Rattle.mc_text.specs.declared.point.Mark.{Mark}
 use Rattle.mc_text.specs.declared.point.Mark.TheVariants.{S, T}
-use Rattle.mc_text.specs.Heads.{head_of, head_in}
-use Rattle.mc_text.specs.Points.{mark_of, point_of, last_head}
+use Rattle.mc_text.specs.Heads.{head_of}
+use Rattle.mc_text.specs.Points.{mark_of, point_of}
 use Rattle.mc_text.specs.Judged.{Words, Lines}
-use Rattle.mc_text.specs.Rules.{new_name, number_in}
-use Rattle.mc_text.specs.Lists.{names_in, names_at, operand_at}
+use Rattle.mc_text.specs.Rules.{new_name}
+use Rattle.mc_text.specs.Lists.{names_at}
 use Rattle.mc_text.proofs.Going.{head_at}
 use Rattle.mc_text.proofs.Kept.{count_at, name_no_mark}
 use Rattle.mc_text.proofs.Clean.{CleanWords}
 use Rattle.mc_text.proofs.Naming.{is_name-name_at, distinct_front, names_apart}
-use Rattle.mc_pattern_text.specs.Roles.{role_in, role_of, role_behind, member, is_defining, is_measuring, has_operand}
+use Rattle.mc_pattern_text.specs.Roles.{role_in, role_of, role_behind, is_defining}
 use Rattle.mc_pattern_text.specs.Value.{is_first, is_second, word_under, words_under}
-use Rattle.mc_pattern_text.specs.Judge.{measured_in, second_name, member_name, pattern_rules}
+use Rattle.mc_pattern_text.specs.Judge.{measured_in, member_name, pattern_rules}
 use Rattle.mc_pattern_text.specs.Canonical.{marked, command_line}
 use Rattle.mc_pattern_text.proofs.Under.{onto_mark, mark_at}
-use Rattle.mc_pattern_text.proofs.CleanCommands.{AreThere, AreMembers, record_clean, known_clean, still_clean, signal_members, members_clean, split_at}
+use Rattle.mc_pattern_text.proofs.CleanCommands.{AreThere, AreMembers, record_clean, still_clean, signal_members, members_clean, split_at}
 
 -- the role of a word behind the first of a correction
 correction_role : (before : Lines) (h : List ℕ) (w : List ℕ) (list : Words)

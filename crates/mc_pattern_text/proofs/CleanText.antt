@@ -1,44 +1,41 @@
 -- Nothing is against a pattern's canonical text.
-use Rattle.std.proofs.Common.{◌≡◌, ℕ, zero, suc, ◌+◌, ◌<◌, ◌≤◌, Bool, true, false, not, ◌&&◌, ◌||◌, All, List, [], ◌∷◌, ◌++◌, length, map, take, drop, codes, refl, sym, subst, ap, ◌∙◌, append_assoc, length-append, arith, eq-eqb, ne_eqb, nat_eq, nat_lt, nat_le, Option, Some, None, IsTrue, if◌then◌else◌, cond, count_by, get_or}
-use Rattle.std.specs.Fmt.{decimal}
+use Rattle.std.proofs.Common.{◌≡◌, ℕ, zero, suc, ◌+◌, ◌<◌, ◌≤◌, Bool, true, false, not, ◌&&◌, ◌||◌, All, List, [], ◌∷◌, ◌++◌, length, map, take, drop, codes, refl, sym, ap, ◌∙◌, append_assoc, length-append, arith, eq-eqb, ne_eqb, nat_eq, nat_le, Option, Some, None, IsTrue, if◌then◌else◌, cond, count_by, get_or}
 use Rattle.std.specs.List.{filter_map, flat_map, list_all, IsDistinct}
 use Rattle.std.proofs.lemmas.Bool.{cases_Bool}
 use Rattle.std.proofs.lemmas.Bool.Decides.{nat_tests}
 use Rattle.std.proofs.lemmas.List.{append-nil, map-append, length-take-le, take-append-drop}
 use Rattle.std.proofs.lemmas.List.Elements.{filter_map-append}
 use Rattle.std.proofs.lemmas.List.Sums.{fold-append, sum_by-append, sum_by-cons, list_all-from_AllPass}
-use Rattle.std.proofs.lemmas.Option.{unwrap_or-slice_get}
 use mathlib.Core.Logic.{inl, inr}
-use Rattle.mc_model.specs.Names.{Name, AreNames, name_eq, is_name, is_held}
-use Rattle.mc_model.specs.Numbers.{ListsOnce, is_member}
+use Rattle.mc_model.specs.Names.{Name, AreNames, name_eq, is_name}
+use Rattle.mc_model.specs.Numbers.{is_member}
 use Rattle.mc_model.specs.Pattern.{Command, Prep, Ent, Meas, FixX, FixZ, Pattern}
 use Rattle.mc_model.specs.Steps.{is_permitted}
 use Rattle.mc_model.specs.Valid.{FitsBehind, IsValid, measured, prepared}
-use Rattle.mc_model.proofs.ValidLemmas.{prepared-append, measured-append, moved_on}
+use Rattle.mc_model.proofs.ValidLemmas.{prepared-append}
 use Rattle.mc_pattern.specs.Patterns.{IsPattern}
 use Rattle.mc_pattern.specs.Rules.{measured_by}
 use Rattle.mc_pattern.specs.Typed.{AllTyped}
 use Rattle.mc_pattern.proofs.Members.{below_by, counts_member, member_counts}
 use Rattle.mc_write.specs.Named.{name_at}
 use Rattle.mc_text.specs.declared.head.Head.{Head}
-use Rattle.mc_text.specs.declared.head.Head.TheVariants.{In, Out, End}
+use Rattle.mc_text.specs.declared.head.Head.TheVariants.{Out}
 use Rattle.mc_text.specs.Heads.{head_of, head_in, is_end}
 use Rattle.mc_text.specs.Points.{point_of, last_head}
 use Rattle.mc_text.specs.Judged.{Words, Lines}
-use Rattle.mc_text.specs.Rules.{new_name}
-use Rattle.mc_text.specs.Lists.{names_in, names_at, operand_at, operands_at}
+use Rattle.mc_text.specs.Lists.{names_in, names_at, operand_at}
 use Rattle.mc_text.proofs.Going.{head_at}
 use Rattle.mc_text.proofs.Kept.{count_some, names_at-line}
 use Rattle.mc_text.proofs.Clean.{CleanWords, Clean, last, more}
-use Rattle.mc_text.proofs.Naming.{is_name-name_at, held-name_at, distinct_front}
+use Rattle.mc_text.proofs.Naming.{distinct_front}
 use Rattle.mc_pattern_text.specs.Roles.{may_follow, role_of, role_in, follows_command, is_defining, is_measuring, is_output}
 use Rattle.mc_pattern_text.specs.Value.{spelled_command, spelled_commands}
-use Rattle.mc_pattern_text.specs.Judge.{measured_in, is_settled, still_name, output_name, pattern_rules}
-use Rattle.mc_pattern_text.specs.Canonical.{marked, command_line, pattern_lines}
+use Rattle.mc_pattern_text.specs.Judge.{measured_in, is_settled, pattern_rules}
+use Rattle.mc_pattern_text.specs.Canonical.{command_line, pattern_lines}
 use Rattle.mc_pattern_text.specs.ChangeRows.{measured_order}
 use Rattle.mc_pattern_text.proofs.NamedSignals.{all_front}
 use Rattle.mc_pattern_text.proofs.NamedCommands.{measured_there}
-use Rattle.mc_pattern_text.proofs.CleanCommands.{IsAfter, AreThere, front_distinct, front_more, known_front, known_clean, measured_held, held_written, measured_listed}
+use Rattle.mc_pattern_text.proofs.CleanCommands.{IsAfter, AreThere, front_distinct, front_more, known_clean, measured_held, held_written}
 use Rattle.mc_pattern_text.proofs.CleanLines.{command_clean}
 
 pub last_head-next : (before : Lines) (here : Words) → last_head (before ++ here ∷ []) ≡ head_in here

@@ -1,5 +1,5 @@
 -- Signals by the names of their members.
-use Rattle.std.proofs.Common.{◌≡◌, ℕ, ◌<◌, ◌≤◌, Bool, true, false, not, ◌&&◌, ◌||◌, List, [], ◌∷◌, ◌++◌, map, length, refl, sym, ap, ◌∙◌, arith, length-append, nat_eq, nat_lt, ne_eqb, eq-eqb, Some, None, All, suc}
+use Rattle.std.proofs.Common.{◌≡◌, ℕ, ◌<◌, Bool, true, false, ◌&&◌, ◌||◌, List, [], ◌∷◌, ◌++◌, map, length, refl, sym, ap, ◌∙◌, arith, length-append, nat_eq, nat_lt, ne_eqb, eq-eqb, Some, All, suc}
 use Rattle.std.specs.List.{list_any, list_all}
 use Rattle.std.proofs.lemmas.Bool.Decides.{nat_tests}
 use Rattle.std.proofs.lemmas.List.{map-append, get_or_append_left}
@@ -10,7 +10,7 @@ use mathlib.Core.Path.{fun_ext}
 use Rattle.mc_model.specs.Bits.{◌⊻◌}
 use Rattle.mc_model.specs.Names.{AreNames, name_eq, is_held, place_of}
 use Rattle.mc_model.specs.Numbers.{is_member, numbers_where}
-use Rattle.mc_model.specs.Signals.{Signal, signal_of, signal_sum, toggled, IsRising, AllAbove}
+use Rattle.mc_model.specs.Signals.{Signal, signal_of, signal_sum, IsRising, AllAbove}
 use Rattle.mc_pattern.proofs.Members.{below_by}
 use Rattle.mc_write.specs.Named.{name_at}
 use Rattle.mc_signal.proofs.Members.{toggled_all-single}

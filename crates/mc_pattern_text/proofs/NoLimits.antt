@@ -1,10 +1,9 @@
 -- Sections in which no limit can be passed.
-use Rattle.std.proofs.Common.{◌≡◌, ℕ, List, [], ◌∷◌, ◌++◌, Bool, true, false, Option, Some, None, refl, sym, ◌∙◌, if◌then◌else◌}
+use Rattle.std.proofs.Common.{◌≡◌, ℕ, List, [], ◌∷◌, ◌++◌, Bool, true, false, Option, Some, None, refl, if◌then◌else◌}
 use Rattle.mc_lex.specs.declared.end.TextEnd.TheVariants as end
 use Rattle.mc_lex.specs.Lines.{Item, word, bad, Line}
-use Rattle.mc_text.specs.declared.fault.Fault.{Fault}
 use Rattle.mc_text.specs.Judged.{Judgement, fault, limit, Place, Words, Lines, Rules, placed, or_later, first_in_line, first_in_section, is_last, words_of}
-use Rattle.mc_text.specs.Stops.{IsEnd, answer, answered}
+use Rattle.mc_text.specs.Stops.{IsEnd, answered}
 
 abbrev pub IsFault : Option Judgement → Type 0
 IsFault judged = (which found : ℕ) → judged ≡ Some (limit which found) → ⊥

@@ -1,16 +1,15 @@
 -- The canonical text of a pattern is read without a fault, as that pattern.
-use Rattle.std.proofs.Common.{◌≡◌, ℕ, zero, suc, ◌+◌, ◌*◌, ◌<◌, ◌≤◌, Bool, true, false, not, ◌&&◌, All, List, [], ◌∷◌, ◌++◌, length, map, take, drop, codes, refl, sym, ap, ap₂, ◌∙◌, append_assoc, arith, Option, Some, None, IsTrue, if◌then◌else◌}
+use Rattle.std.proofs.Common.{◌≡◌, ℕ, zero, suc, ◌+◌, ◌<◌, ◌≤◌, Bool, true, false, ◌&&◌, All, List, [], ◌∷◌, ◌++◌, length, map, take, codes, refl, sym, ap, ap₂, ◌∙◌, append_assoc, arith, Option, Some, None, IsTrue, if◌then◌else◌}
 use Rattle.std.specs.Fmt.{decimal}
 use Rattle.std.specs.List.{filter_map, flat_map, list_all}
 use Rattle.std.proofs.lemmas.Bool.{eqb-true}
 use Rattle.std.proofs.lemmas.Grind.{flat_map-append}
-use Rattle.std.proofs.lemmas.List.{append-nil, map-append, take-append-drop, length-take-le, take_all}
+use Rattle.std.proofs.lemmas.List.{append-nil, length-take-le, take_all}
 use Rattle.std.proofs.lemmas.List.Elements.{filter_map-append}
 use Rattle.std.proofs.lemmas.List.Folds.{list_all-append}
 use Rattle.std.proofs.lemmas.List.Sums.{list_all-from_AllPass}
-use Rattle.mc_lex.specs.Lines.{lines_of, end_of}
+use Rattle.mc_lex.specs.Lines.{end_of}
 use Rattle.mc_write.specs.Named.{name_at}
-use Rattle.mc_angle.specs.Angle.{angle_of}
 use Rattle.mc_angle.proofs.Numerals.{angle-decimal, number-decimal}
 use Rattle.mc_model.specs.Names.{Name, AreNames, is_name}
 use Rattle.mc_model.specs.Pattern.{Command, Prep, Ent, Meas, FixX, FixZ, Pattern}
@@ -25,20 +24,18 @@ use Rattle.mc_text.specs.declared.point.Mark.{Mark}
 use Rattle.mc_text.specs.declared.point.Mark.TheVariants.{S, T}
 use Rattle.mc_text.specs.Points.{mark_of}
 use Rattle.mc_text.specs.Judged.{Words, Lines, section_lines}
-use Rattle.mc_text.specs.Rules.{number_in}
 use Rattle.mc_text.specs.Lists.{names_in, names_at}
 use Rattle.mc_text.proofs.Kept.{name_no_mark}
 use Rattle.mc_text.proofs.Clean.{IsRead, written_read}
 use Rattle.mc_text.proofs.Naming.{number-name_at, numbers-name_at, is_name-name_at, name_written, number_written}
 use Rattle.mc_text.proofs.Written.{is_written, is_written_line}
 use Rattle.mc_pattern_text.specs.Roles.{is_defining, is_input, is_output}
-use Rattle.mc_pattern_text.specs.Value.{is_first, is_second, words_under, spelled_m, spelled_command, spelled_commands, signal_by, command_by, pattern_of}
+use Rattle.mc_pattern_text.specs.Value.{is_first, is_second, words_under, spelled_m, spelled_command, spelled_commands, command_by, pattern_of}
 use Rattle.mc_pattern_text.specs.Judge.{pattern_rules}
 use Rattle.mc_pattern_text.specs.Written.{IsNamed, AreNamed}
 use Rattle.mc_pattern_text.specs.Canonical.{marked, command_line, pattern_lines, pattern_text, behind_header}
 use Rattle.mc_pattern_text.proofs.NamedCommands.{pattern_named}
 use Rattle.mc_pattern_text.proofs.NamedSignals.{names_written, signal_back}
-use Rattle.mc_pattern_text.proofs.Under.{onto_mark}
 use Rattle.mc_pattern_text.proofs.CleanCommands.{IsAfter}
 use Rattle.mc_pattern_text.proofs.CleanLines.{names_unmarked, under-append, two_under, decimal_no_mark}
 use Rattle.mc_pattern_text.proofs.CleanText.{command_after, inputs_after, pattern_clean}

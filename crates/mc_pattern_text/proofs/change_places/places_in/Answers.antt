@@ -1,4 +1,4 @@
-use Rattle.std.proofs.Common.{◌≡◌, ◌<◌, arith, sym, take, length, get_or, min, ap, slice_index_or}
+use Rattle.std.proofs.Common.{◌≡◌, ◌<◌, arith, take, length, get_or, slice_index_or}
 use Rattle.std.proofs.lemmas.List.{length-take-le}
 use Rattle.mc_pattern_text.proofs.ChangeOrder.{places_more, taken_next, same_default}
 use Rattle.mc_pattern_text.proofs.change_places.places_in.Goals as goal
