@@ -4,7 +4,6 @@ use Rattle.std.specs.List.{filter_map, list_all}
 use Rattle.std.proofs.lemmas.Bool.{eq-eqb, eqb-true, true≢false}
 use Rattle.std.proofs.lemmas.Bool.Decides.{nat_tests}
 use Rattle.std.proofs.lemmas.List.{length-map}
-use Rattle.std.proofs.lemmas.List.Sums.{fold-append}
 use Rattle.mc_model.specs.Names.{place_of}
 use Rattle.mc_model.specs.Numbers.{is_member, numbers_where}
 use Rattle.mc_model.specs.Signals.{Signal, no_signal}
@@ -27,23 +26,21 @@ use Rattle.mc_pattern_text.specs.Value.{signal_by}
 use Rattle.mc_pattern_text.specs.ChangeJudge.{judge_by, lacks_by, members_in, rules_by}
 use Rattle.mc_pattern_text.specs.ChangeKept.{IsSignalOf, IsChangeKept, RowMoves, added_member, row_here}
 
-pub last_head-line : (before : Lines) (here : Words) → last_head (before ++ here ∷ []) ≡ head_in here
-last_head-line before here =
-    fold-append (λ (last : Option Head) (line : Words). head_in line) None before (here ∷ [])
-
 -- the signal without members
 where_none : (n q : ℕ) → let none : List ℕ = [] in numbers_where (is_member none) n ≡ none
 where_none n q = none_from 0 n
   where
     none_from : (q n : ℕ) → let none : List ℕ = [] in
-        Rattle.std.specs.List.filter (is_member none) (Rattle.mc_model.specs.Numbers.numbers_from q n) ≡ none
+        Rattle.std.specs.List.filter (is_member none)
+        (Rattle.mc_model.specs.Numbers.numbers_from q n) ≡ none
     none_from q zero = refl
     none_from q (suc n) = none_from (suc q) n
 
 pub no_members : (names : List (List ℕ)) → IsSignalOf names [] no_signal
 no_members names = record {
   held = refl;
-  same = ap (λ (ms : List ℕ). record { members = ms; constant = false }) (sym (where_none (length names) 0));
+  same = ap (λ (ms : List ℕ). record { members = ms; constant = false })
+      (sym (where_none (length names) 0));
 }
 
 -- there are no more rows than measured qubits
@@ -51,7 +48,8 @@ pub rows_few : (k : ChangeReader) (before : Lines) (here : Words) → IsChangeKe
     → length k.rows ≤ length k.order.items
 rows_few k before here h =
     let same = ap length h.qubits in
-    let len : length (qubits_of k.rows) ≡ length k.rows = length-map k.rows (λ (row : ChangeRow). row.qubit) in
+    let len : length (qubits_of k.rows)
+    ≡ length k.rows = length-map k.rows (λ (row : ChangeRow). row.qubit) in
     let most = length-take k.order.items (length k.rows) in
     omega (arith, same, len, most)
   where
@@ -92,7 +90,8 @@ members-word before (h ∷ []) p word e =
     none_by false = refl
 members-word before (h ∷ a ∷ words) p word e =
     let count = count_at before (h ∷ a ∷ words) in
-    let many : nat_le p.count 1 ≡ false = rw e (two_more (point_of before (h ∷ a ∷ words)).count (omega arith)) in
+    let many : nat_le p.count 1
+    ≡ false = rw e (two_more (point_of before (h ∷ a ∷ words)).count (omega arith)) in
     let head : p.head ≡ head_of h = rw e (head_at before (h ∷ a ∷ words)) in
     rw (many, head) (more_by (is_row (head_of h)) words word)
   where
@@ -100,7 +99,8 @@ members-word before (h ∷ a ∷ words) p word e =
     two_more c le = grind (arith, nat_tests)
 
 -- the qubit of a row
-row_head : (here : Words) (a : List ℕ) → operand_at 0 is_row here ≡ Some a → is_row (head_in here) ≡ true
+row_head : (here : Words) (a : List ℕ) → operand_at 0 is_row here ≡ Some a → is_row (head_in here)
+    ≡ true
 row_head [] a e = absurd (cc e)
 row_head (h ∷ words) a e = by_test (is_row (head_of h)) refl
   where
@@ -132,7 +132,8 @@ qubit_more k k' before here p word false s h e m one row a is =
 -- the word `end`
 ends_by : (order : List ℕ) (rows : ℕ) (last : Option Head) (word : List ℕ) (t s : Bool)
     → may_follow last (head_of word) ≡ t → nat_lt rows (length order) ≡ s
-    → judge_by [] order rows [] last record_word word ≡ None → is_end (head_of word) ≡ true → s ≡ false
+    → judge_by [] order rows [] last record_word word ≡ None → is_end (head_of word) ≡ true → s
+    ≡ false
 ends_by order rows last word false s e f clean ends =
     let clean' = rw e at clean in absurd (cc clean')
 ends_by order rows last word true true e f clean ends =
@@ -216,7 +217,8 @@ spelled_here names (h ∷ a ∷ words) q signal p before e clean place is =
     head = rw e (head_at before (h ∷ a ∷ words))
 
     by_test : (t : Bool) → is_row (head_of h) ≡ t
-        → map (row_by names) (filter_map spelled_row ((h ∷ a ∷ words) ∷ [])) ≡ row_here p.head q signal
+        → map (row_by names) (filter_map spelled_row ((h ∷ a ∷ words) ∷ []))
+        ≡ row_here p.head q signal
     by_test false f = rw (head, f) refl
     by_test true f =
         let there : place_of names a ≡ Some q = place a (rw f refl) in

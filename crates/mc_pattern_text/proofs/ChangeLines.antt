@@ -22,8 +22,8 @@ use Rattle.mc_pattern_text.specs.ChangeRows.{qubits_of, AreEarlier}
 use Rattle.mc_pattern_text.specs.ChangeValue.{spelled_row, spelled_rows, row_by, rows_of}
 use Rattle.mc_pattern_text.specs.ChangeJudge.{lacks_by, members_in, rules_by}
 use Rattle.mc_pattern_text.specs.ChangeKept.{IsSignalOf, IsEarlier, IsChangeKept, RowEnds, row_here}
-use Rattle.mc_pattern_text.proofs.Printing.{taken_more}
-use Rattle.mc_pattern_text.proofs.ChangeKeeping.{last_head-line, no_members, spelled_here}
+use Rattle.mc_pattern_text.proofs.Parts.{last_head-line, taken_more}
+use Rattle.mc_pattern_text.proofs.ChangeKeeping.{no_members, spelled_here}
 
 -- the rows of the lines with one more
 rows-line : (names : List (List ℕ)) (rows : List ChangeRow) (before : Lines) (here : Words) (q : ℕ)
@@ -85,7 +85,8 @@ qubits_by : (order : List ℕ) (rows : List ChangeRow) (q : ℕ) (signal : Signa
 qubits_by order rows q signal head false e same next = rw (e, append-nil rows) same
 qubits_by order rows q signal head true e same next =
     let row : ChangeRow = record { qubit = q; signal = signal } in
-    let len : length (rows ++ row ∷ []) ≡ suc (length rows) = length-append rows (row ∷ []) ∙ omega arith in
+    let len : length (rows ++ row ∷ []) ≡ suc (length rows) = length-append rows (row ∷ [])
+    ∙ omega arith in
     rw (
       e,
       map-append (λ (r : ChangeRow). r.qubit) rows (row ∷ []),

@@ -16,7 +16,7 @@ use Rattle.mc_pattern_text.specs.ChangePlaces.{ArePlaces}
 use Rattle.mc_pattern_text.specs.ChangeRows.{measured_order}
 use Rattle.mc_pattern_text.specs.Written.{AreNamed}
 use Rattle.mc_pattern_text.proofs.NamedCommands.{pattern_named}
-use Rattle.mc_pattern_text.proofs.Printing.{taken_more}
+use Rattle.mc_pattern_text.proofs.Parts.{taken_more}
 
 -- each measured qubit has a name
 order_named : (n : ℕ) (cs : List Command) → AreNamed n cs

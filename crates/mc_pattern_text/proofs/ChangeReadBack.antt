@@ -1,5 +1,5 @@
 -- The canonical text of a change is read without a fault, as that change.
-use Rattle.std.proofs.Common.{◌≡◌, ℕ, zero, suc, ◌+◌, ◌<◌, Bool, true, false, ◌||◌, All, List, [], ◌∷◌, ◌++◌, length, map, take, codes, refl, sym, ap, ◌∙◌, append_assoc, length-append, arith, eq-eqb, ne_eqb, nat_eq, nat_lt, Some, slice_get}
+use Rattle.std.proofs.Common.{◌≡◌, ℕ, zero, suc, ◌+◌, ◌<◌, true, false, All, List, [], ◌∷◌, ◌++◌, length, map, take, codes, refl, sym, ap, ◌∙◌, append_assoc, length-append, arith, eq-eqb, ne_eqb, nat_eq, nat_lt, Some, slice_get}
 use Rattle.std.specs.List.{filter_map, list_all}
 use Rattle.std.proofs.lemmas.Bool.Decides.{nat_tests}
 use Rattle.std.proofs.lemmas.List.{map-append, append-nil, length-map}
@@ -31,8 +31,8 @@ use Rattle.mc_pattern_text.specs.ChangeJudge.{rules_by, change_rules}
 use Rattle.mc_pattern_text.specs.ChangeCanonical.{row_line, change_lines, change_text}
 use Rattle.mc_pattern_text.specs.ChangeKept.{IsEarlier}
 use Rattle.mc_pattern_text.proofs.NamedSignals.{signal_back, member_free, names_written}
-use Rattle.mc_pattern_text.proofs.ChangeKeeping.{last_head-line}
 use Rattle.mc_pattern_text.proofs.ChangePrinting.{rows_named}
+use Rattle.mc_pattern_text.proofs.Parts.{among, get_map, last_head-line, or_right}
 
 -- a row that may stand at a place
 record IsRowAt (names : List Name) (order : List ℕ) (i : ℕ) (row : ChangeRow) : Type 0 where
@@ -58,15 +58,17 @@ member_role before w done =
     rw (some, head_at before (codes "o" ∷ w ∷ done), many) refl
 
 -- the members of a row
-members_clean : (names : List Name) (order : List ℕ) (before : Lines) (w : List ℕ) (done qs : List ℕ)
+members_clean : (names : List Name) (order : List ℕ) (before : Lines) (w : List ℕ)
+    (done qs : List ℕ)
     → AreNames names → All (λ q. q < length names) (done ++ qs) → IsRising (done ++ qs)
-    → ((q : ℕ) → is_member qs q ≡ true → is_member (take (length (spelled_rows before)) order) q ≡ true)
+    → ((q : ℕ) → is_member qs q ≡ true → is_member (take (length (spelled_rows before)) order) q
+    ≡ true)
     → CleanWords (rules_by names order) before (codes "o" ∷ w ∷ map (name_at names) done)
     (map (name_at names) qs)
 members_clean names order before w done [] valid below rising early =
     rw (member_role before w (map (name_at names) done)) refl
 members_clean names order before w done (q ∷ qs) valid below rising early =
-    let lt = below_by (length names) (done ++ q ∷ qs) q below (among done) in
+    let lt = below_by (length names) (done ++ q ∷ qs) q below (among done q qs) in
     let role = member_role before w (map (name_at names) done) in
     let named = is_name-name_at names q valid lt in
     let held = held-name_at names q valid.distinct lt in
@@ -75,22 +77,10 @@ members_clean names order before w done (q ∷ qs) valid below rising early =
     let measured = early q (rw (eq-eqb q q refl) refl) in
     let next : (done ++ q ∷ []) ++ qs ≡ done ++ (q ∷ qs) = append_assoc done (q ∷ []) qs in
     let rest = members_clean names order before w (done ++ q ∷ []) qs valid (rw next below)
-    (rw next rising) (λ r is. early r (rw is (or_true (nat_eq r q)))) in (
+    (rw next rising) (λ r is. early r (or_right (nat_eq r q) (is_member qs r) is)) in (
       rw (role, named, held, free, number, measured) refl,
       rw (map-append (name_at names) done (q ∷ [])) at rest,
     )
-  where
-    or_true : (b : Bool) → (b || true) ≡ true
-    or_true true = refl
-    or_true false = refl
-
-    or_last : (a b : Bool) → b ≡ true → (a || b) ≡ true
-    or_last true b e = refl
-    or_last false b e = e
-
-    among : (xs : List ℕ) → is_member (xs ++ q ∷ qs) q ≡ true
-    among [] = rw (eq-eqb q q refl) refl
-    among (x ∷ xs) = or_last (nat_eq q x) (is_member (xs ++ q ∷ qs) q) (among xs)
 
 row_clean : (names : List Name) (order : List ℕ) (before : Lines) (i : ℕ) (row : ChangeRow)
     → AreNames names → AreBefore before i → IsRowAt names order i row
@@ -151,20 +141,14 @@ plain_at [] i row plain e = absurd (cc e)
 plain_at (r ∷ rows) zero row plain e = let same : r ≡ row = cc e in rw (← same) plain.0
 plain_at (r ∷ rows) (suc i) row plain e = plain_at rows i row plain.1 e
 
-get_qubit : (rows : List ChangeRow) (i : ℕ) (row : ChangeRow) → slice_get rows i ≡ Some row
-    → slice_get (qubits_of rows) i ≡ Some row.qubit
-get_qubit [] i row e = absurd (cc e)
-get_qubit (r ∷ rows) zero row e =
-    let same : r ≡ row = cc e in ap (λ (x : ChangeRow). Some x.qubit) same
-get_qubit (r ∷ rows) (suc i) row e = get_qubit rows i row e
-
 rows_fit : (p : Pattern) (rows : List ChangeRow) → IsValidPattern p → IsChangeOf p rows
     → AllPlain rows → (i : ℕ) (row : ChangeRow) → slice_get rows i ≡ Some row
     → IsRowAt p.names (measured_order p.commands) i row
 rows_fit p rows valid h plain i row get =
     let named = rows_named p rows valid h i row get in
     record {
-      next = ap (λ (qs : List ℕ). slice_get qs i) (sym h.qubits) ∙ get_qubit rows i row get;
+      next = ap (λ (qs : List ℕ). slice_get qs i) (sym h.qubits)
+          ∙ get_map (λ (r : ChangeRow). r.qubit) rows i row get;
       earlier = h.earlier i row get;
       plain = plain_at rows i row plain get;
       qubit = named.qubit;
@@ -197,10 +181,14 @@ rows_written names (row ∷ rows) valid named =
     rw (name, members, rest) refl
 
 change_written : (p : Pattern) (rows : List ChangeRow) → IsValidPattern p → IsChangeOf p rows
-    → list_all is_written_line ((codes "change" ∷ codes "1" ∷ []) ∷ change_lines p.names rows) ≡ true
+    → list_all is_written_line ((codes "change" ∷ codes "1" ∷ []) ∷ change_lines p.names rows)
+    ≡ true
 change_written p rows valid h =
     let all = rows_written p.names rows valid.names (rows_named p rows valid h) in
-    rw (list_all-append is_written_line (map (row_line p.names) rows) ((codes "end" ∷ []) ∷ []), all)
+    rw (
+      list_all-append is_written_line (map (row_line p.names) rows) ((codes "end" ∷ []) ∷ []),
+      all,
+    )
     refl
 
 -- the change that the canonical lines spell
@@ -228,7 +216,8 @@ pub change_read : (p : Pattern) (rows : List ChangeRow) → IsValidPattern p →
     (behind_header (change_text p rows)) (end_of (change_text p rows))
 change_read p rows valid h plain =
     written_read (change_rules p) (codes "change" ∷ codes "1" ∷ []) (change_lines p.names rows)
-    (end_of (change_text p rows)) (change_written p rows valid h) (change_clean p rows valid h plain)
+    (end_of (change_text p rows)) (change_written p rows valid h)
+    (change_clean p rows valid h plain)
 
 pub change_text_back : (p : Pattern) (rows : List ChangeRow) → IsValidPattern p → IsChangeOf p rows
     → AllPlain rows → rows_of p.names (section_lines (behind_header (change_text p rows))) ≡ rows

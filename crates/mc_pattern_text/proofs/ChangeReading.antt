@@ -60,7 +60,8 @@ judge_fault names order rows list last member word =
     let twice = (is_held list word, ListedTwice) ∷ [] in
     let late = (not (is_member (take rows order) (number_in names word)), NotMeasured) ∷ [] in
     next_fault (listed_name names list word) (broken late)
-    (next_fault (known_name names word) (broken twice) (known_fault names word) (broken_fault twice))
+    (next_fault (known_name names word) (broken twice) (known_fault names word)
+    (broken_fault twice))
     (broken_fault late)
 judge_fault names order rows list last surplus word = broken_fault ((true, Surplus) ∷ [])
 

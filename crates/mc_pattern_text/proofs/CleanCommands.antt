@@ -1,10 +1,9 @@
 -- Nothing is against the lines of the commands of a pattern's canonical text.
-use Rattle.std.proofs.Common.{◌≡◌, ℕ, zero, suc, ◌+◌, ◌<◌, ◌≤◌, Bool, true, false, ◌||◌, All, List, [], ◌∷◌, ◌++◌, length, map, take, drop, refl, sym, ap, ◌∙◌, append_assoc, arith, eq-eqb, nat_eq, nat_le, Option, None}
+use Rattle.std.proofs.Common.{◌≡◌, ℕ, zero, suc, ◌+◌, ◌<◌, ◌≤◌, Bool, true, false, ◌||◌, All, List, [], ◌∷◌, ◌++◌, length, map, take, drop, refl, sym, ap, ◌∙◌, append_assoc, arith, nat_eq, nat_le, Option, None}
 use Rattle.std.specs.List.{IsDistinct, AllByRecursion}
 use Rattle.std.proofs.lemmas.Bool.{eqb-true}
 use Rattle.std.proofs.lemmas.Bool.Decides.{nat_tests}
 use Rattle.std.proofs.lemmas.List.{map-append, append-nil, take-append-drop, length-take-le}
-use Rattle.std.proofs.lemmas.List.Elements.{All-from_recursion}
 use Rattle.mc_model.specs.Names.{Name, AreNames, name_eq, is_held}
 use Rattle.mc_model.specs.Numbers.{is_member}
 use Rattle.mc_model.specs.Pattern.{Command, Prep, Ent, Meas, FixX, FixZ}
@@ -24,7 +23,8 @@ use Rattle.mc_pattern_text.specs.Roles.{may_follow, follows_command, is_command,
 use Rattle.mc_pattern_text.specs.Value.{spelled_commands}
 use Rattle.mc_pattern_text.specs.Judge.{measured_in, still_name, member_name, next_record, pattern_rules}
 use Rattle.mc_pattern_text.specs.ChangeRows.{measured_order}
-use Rattle.mc_pattern_text.proofs.NamedSignals.{member-listed, member_free, all_front}
+use Rattle.mc_pattern_text.proofs.NamedSignals.{member-listed, member_free}
+use Rattle.mc_pattern_text.proofs.Parts.{all_front, among, below_all}
 
 -- the first names of a list
 pub front_at : (ns : List Name) (m q : ℕ) → q < m → name_at (take m ns) q ≡ name_at ns q
@@ -61,7 +61,8 @@ pub known_front : (ns : List Name) (m q : ℕ) → AreNames ns → m ≤ length 
     → known_name (take m ns) (name_at ns q) ≡ None
 known_front ns m q valid within lt =
     let long = length-take-le m ns within in
-    let distinct = front_distinct (take m ns) (drop m ns) (rw (take-append-drop m ns) valid.distinct) in
+    let distinct = front_distinct (take m ns) (drop m ns)
+    (rw (take-append-drop m ns) valid.distinct) in
     let held : is_held (take m ns) (name_at ns q) ≡ true =
     rw (← front_at ns m q lt) (held-name_at (take m ns) q distinct (omega arith)) in
     let named = is_name-name_at ns q valid (omega arith) in
@@ -82,39 +83,26 @@ pub held_written : (ns : List Name) (qs : List ℕ) (q : ℕ) → IsDistinct nam
     → is_held (map (name_at ns) qs) (name_at ns q) ≡ is_member qs q
 held_written ns qs q distinct below lt =
     let are = numbers-name_at ns qs distinct below in
-    sym (member-listed ns (map (name_at ns) qs) (name_at ns q) q (place-name_at ns q distinct lt) are.held)
+    sym (member-listed ns (map (name_at ns) qs) (name_at ns q) q (place-name_at ns q distinct lt)
+    are.held)
     ∙ rw (← are.numbers_are) refl
 
-pub below_all : (n : ℕ) (qs : List ℕ) → ((q : ℕ) → is_member qs q ≡ true → q < n)
-    → All (λ q. q < n) qs
-below_all n qs below = All-from_recursion (λ (q : ℕ). q < n) qs (each n qs below)
-  where
-    or_true : (b : Bool) → (b || true) ≡ true
-    or_true true = refl
-    or_true false = refl
-
-    each : (n : ℕ) (qs : List ℕ) → ((q : ℕ) → is_member qs q ≡ true → q < n)
-        → AllByRecursion (λ (q : ℕ). q < n) qs
-    each n [] below = tt
-    each n (q ∷ qs) below = (
-      below q (rw (eq-eqb q q refl) refl),
-      each n qs (λ r is. below r (rw is (or_true (nat_eq r q)))),
-    )
-
 -- the lines of the commands `done` stand before, and those of the inputs
-pub record IsAfter (ns : List Name) (inputs : ℕ) (before : Lines) (done : List Command) : Type 0 where
-  pub defined : names_at is_defining before [] ≡ take (inputs + prepared done) ns
-  pub measured : measured_in before ≡ map (name_at ns) (measured_order done)
-  pub none : names_at is_output before [] ≡ []
-  pub takes : (h : Option Head) → may_follow (last_head before) h ≡ follows_command h
-  pub count : length (spelled_commands before) ≡ length done
+pub record IsAfter (ns : List Name) (inputs : ℕ) (before : Lines) (done : List Command) : Type 0
+  where
+    pub defined : names_at is_defining before [] ≡ take (inputs + prepared done) ns
+    pub measured : measured_in before ≡ map (name_at ns) (measured_order done)
+    pub none : names_at is_output before [] ≡ []
+    pub takes : (h : Option Head) → may_follow (last_head before) h ≡ follows_command h
+    pub count : length (spelled_commands before) ≡ length done
 
 -- and the qubits have names
-pub record AreThere (ns : List Name) (inputs : ℕ) (before : Lines) (done : List Command) : Type 0 where
-  pub after : IsAfter ns inputs before done
-  pub names : AreNames ns
-  pub within : inputs + prepared done ≤ length ns
-  pub seen : (k : ℕ) → measured done k ≡ true → k < inputs + prepared done
+pub record AreThere (ns : List Name) (inputs : ℕ) (before : Lines) (done : List Command) : Type 0
+  where
+    pub after : IsAfter ns inputs before done
+    pub names : AreNames ns
+    pub within : inputs + prepared done ≤ length ns
+    pub seen : (k : ℕ) → measured done k ≡ true → k < inputs + prepared done
 
 module _ (ns : List Name) (inputs : ℕ) (before : Lines) (done : List Command) where
   pub order_below : AreThere ns inputs before done → All (λ q. q < length ns) (measured_order done)
@@ -175,7 +163,8 @@ pub record AreMembers (ns : List Name) (names measured : List Name) (qs : List �
   pub known : (q : ℕ) → is_member qs q ≡ true → known_name names (name_at ns q) ≡ None
   pub early : (q : ℕ) → is_member qs q ≡ true → is_held measured (name_at ns q) ≡ true
 
-pub signal_members : (ns : List Name) (inputs : ℕ) (before : Lines) (done : List Command) (s : Signal)
+pub signal_members : (ns : List Name) (inputs : ℕ) (before : Lines) (done : List Command)
+    (s : Signal)
     → AreThere ns inputs before done → SignalFits done s
     → AreMembers ns (names_at is_defining before []) (measured_in before) s.members
 signal_members ns inputs before done s h fits =
@@ -191,16 +180,9 @@ signal_members ns inputs before done s h fits =
       early = λ q is. measured_held ns inputs before done q h (there q is) ∙ seen q is;
     }
 
-among : (xs : List ℕ) (q : ℕ) (qs : List ℕ) → is_member (xs ++ q ∷ qs) q ≡ true
-among [] q qs = rw (eq-eqb q q refl) refl
-among (x ∷ xs) q qs = or_last (nat_eq q x) (is_member (xs ++ q ∷ qs) q) (among xs q qs)
-  where
-    or_last : (a b : Bool) → b ≡ true → (a || b) ≡ true
-    or_last true b e = refl
-    or_last false b e = e
-
 -- where each word is judged as a member, behind the members before it, nothing is against a signal
-pub members_clean : (ns names measured : List Name) (before : Lines) (here : Words) (done qs : List ℕ)
+pub members_clean : (ns names measured : List Name) (before : Lines) (here : Words)
+    (done qs : List ℕ)
     (tail : Words) → AreNames ns → AreMembers ns names measured (done ++ qs)
     → ((front : List ℕ) (q : ℕ) → All (λ r. r < length ns) front → q < length ns
     → pattern_rules.judge before (here ++ map (name_at ns) front) (name_at ns q)

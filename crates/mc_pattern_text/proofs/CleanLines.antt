@@ -34,11 +34,13 @@ use Rattle.mc_pattern_text.specs.Judge.{measured_in, member_name, pattern_rules}
 use Rattle.mc_pattern_text.specs.Canonical.{marked, command_line}
 use Rattle.mc_pattern_text.proofs.Under.{onto_mark, mark_at}
 use Rattle.mc_pattern_text.proofs.CleanCommands.{AreThere, AreMembers, record_clean, still_clean, signal_members, members_clean, split_at}
+use Rattle.mc_pattern_text.proofs.Parts.{and_both}
 
 -- the role of a word behind the first of a correction
 correction_role : (before : Lines) (h : List ℕ) (w : List ℕ) (list : Words)
     → role_of (point_of before (h ∷ w ∷ list))
-    ≡ role_in (head_of h) (point_of before (h ∷ w ∷ list)).count (point_of before (h ∷ w ∷ list)).mark
+    ≡ role_in (head_of h) (point_of before (h ∷ w ∷ list)).count
+    (point_of before (h ∷ w ∷ list)).mark
 correction_role before h w list =
     let count = count_at before (h ∷ w ∷ list) in
     let some = ne_eqb (point_of before (h ∷ w ∷ list)).count 0 (λ none. omega arith) in
@@ -81,7 +83,8 @@ z_lacks before w list =
 -- words without marks
 abbrev pub AreUnmarked : Words → Type 0
 AreUnmarked words = (mark : Option Mark) → (fold onto_mark mark words ≡ mark)
-    × ((test : Option Mark → Bool) → words_under test mark words ≡ (if test mark then words else []))
+    × ((test : Option Mark → Bool) → words_under test mark words
+    ≡ (if test mark then words else []))
 
 unmarked-cons : (w : List ℕ) (words : Words) → mark_of w ≡ None → AreUnmarked words
     → AreUnmarked (w ∷ words)
@@ -127,10 +130,6 @@ m_role before w a words =
 -- a number is a name, and so no mark
 digit_name : (b : ℕ) → is_digit b ≡ true → is_name_byte b ≡ true
 digit_name b e = grind (arith, nat_tests)
-
-and_both : (a b : Bool) → (a && b) ≡ true → (a ≡ true) × (b ≡ true)
-and_both true b e = (refl, e)
-and_both false b e = absurd (cc e)
 
 digits_name : (w : List ℕ) → list_all is_digit w ≡ true → list_all is_name_byte w ≡ true
 digits_name [] all = refl
@@ -219,15 +218,18 @@ module _ (before : Lines) (w a : List ℕ) (no_w : mark_of w ≡ None) (no_a : m
 
   two_marks : (words : Words) → fold onto_mark None (w ∷ a ∷ words) ≡ fold onto_mark None words
   two_marks words =
-      let start : option_or (mark_of a) (option_or (mark_of w) None) ≡ None = rw (no_w, no_a) refl in
+      let start : option_or (mark_of a) (option_or (mark_of w) None)
+      ≡ None = rw (no_w, no_a) refl in
       ap (λ mark. fold onto_mark mark words) start
 
   pub two_under : (test : Option Mark → Bool) (words : Words) → test None ≡ false
       → words_under test None (w ∷ a ∷ words) ≡ words_under test None words
   two_under test words none =
-      let start : option_or (mark_of a) (option_or (mark_of w) None) ≡ None = rw (no_w, no_a) refl in
+      let start : option_or (mark_of a) (option_or (mark_of w) None)
+      ≡ None = rw (no_w, no_a) refl in
       let first : word_under test None w ≡ [] = rw (no_w, none) refl in
-      let second : word_under test (option_or (mark_of w) None) a ≡ [] = rw (no_a, no_w, none) refl in
+      let second : word_under test (option_or (mark_of w) None) a
+      ≡ [] = rw (no_a, no_w, none) refl in
       ap (λ ws. ws ++ (word_under test (option_or (mark_of w) None) a
       ++ words_under test (option_or (mark_of a) (option_or (mark_of w) None)) words)) first
       ∙ ap (λ ws. ws ++ words_under test (option_or (mark_of a) (option_or (mark_of w) None)) words)
@@ -289,20 +291,21 @@ module _ (before : Lines) (w a : List ℕ) (no_w : mark_of w ≡ None) (no_a : m
   second_clean ns firsts [] valid first are = firsts_end firsts first
   second_clean ns firsts (q ∷ qs) valid first are =
       let here = codes "m" ∷ w ∷ a ∷ (firsts ++ codes "t:" ∷ []) in
-      let along : (list : Words) → here ++ list ≡ codes "m" ∷ w ∷ a ∷ (firsts ++ codes "t:" ∷ list) =
+      let along : (list : Words) → here ++ list
+      ≡ codes "m" ∷ w ∷ a ∷ (firsts ++ codes "t:" ∷ list) =
       λ list. ap (λ ws. codes "m" ∷ w ∷ a ∷ ws) (append_assoc firsts (codes "t:" ∷ []) list) in
       let all = names_unmarked ns (q ∷ qs) valid are.below in
       let ends : CleanWords pattern_rules before (here ++ map (name_at ns) (q ∷ qs)) [] =
       ap (λ (words : Words). pattern_rules.lacks before words) (along (map (name_at ns) (q ∷ qs)))
       ∙ second_end firsts (map (name_at ns) (q ∷ qs)) all in
-      let members = members_clean ns (names_at is_defining before []) (measured_in before) before here []
+      let members = members_clean ns (names_at is_defining before []) (measured_in before) before
+      here []
       (q ∷ qs) [] valid are (λ front r below lt.
       ap (λ (words : Words). pattern_rules.judge before words (name_at ns r))
       (along (map (name_at ns) front))
       ∙ second_judged firsts (map (name_at ns) front) (name_at ns r) first
       (names_unmarked ns front valid below))
-      ends in
-      (
+      ends in (
         t_judged firsts first,
         subst (λ (words : Words). CleanWords pattern_rules before words (map (name_at ns) (q ∷ qs)))
             (append-nil here)

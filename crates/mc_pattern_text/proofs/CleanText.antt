@@ -1,11 +1,11 @@
 -- Nothing is against a pattern's canonical text.
-use Rattle.std.proofs.Common.{◌≡◌, ℕ, zero, suc, ◌+◌, ◌<◌, ◌≤◌, Bool, true, false, not, ◌&&◌, ◌||◌, All, List, [], ◌∷◌, ◌++◌, length, map, take, drop, codes, refl, sym, ap, ◌∙◌, append_assoc, length-append, arith, eq-eqb, ne_eqb, nat_eq, nat_le, Option, Some, None, IsTrue, if◌then◌else◌, cond, count_by, get_or}
+use Rattle.std.proofs.Common.{◌≡◌, ℕ, zero, suc, ◌+◌, ◌<◌, ◌≤◌, Bool, true, false, not, ◌||◌, All, List, [], ◌∷◌, ◌++◌, length, map, take, drop, codes, refl, sym, ap, ◌∙◌, append_assoc, length-append, arith, eq-eqb, ne_eqb, nat_eq, nat_le, Option, Some, IsTrue, if◌then◌else◌, cond, count_by, get_or}
 use Rattle.std.specs.List.{filter_map, flat_map, list_all, IsDistinct}
 use Rattle.std.proofs.lemmas.Bool.{cases_Bool}
 use Rattle.std.proofs.lemmas.Bool.Decides.{nat_tests}
 use Rattle.std.proofs.lemmas.List.{append-nil, map-append, length-take-le, take-append-drop}
 use Rattle.std.proofs.lemmas.List.Elements.{filter_map-append}
-use Rattle.std.proofs.lemmas.List.Sums.{fold-append, sum_by-append, sum_by-cons, list_all-from_AllPass}
+use Rattle.std.proofs.lemmas.List.Sums.{sum_by-append, sum_by-cons, list_all-from_AllPass}
 use mathlib.Core.Logic.{inl, inr}
 use Rattle.mc_model.specs.Names.{Name, AreNames, name_eq, is_name}
 use Rattle.mc_model.specs.Numbers.{is_member}
@@ -21,7 +21,7 @@ use Rattle.mc_write.specs.Named.{name_at}
 use Rattle.mc_text.specs.declared.head.Head.{Head}
 use Rattle.mc_text.specs.declared.head.Head.TheVariants.{Out}
 use Rattle.mc_text.specs.Heads.{head_of, head_in, is_end}
-use Rattle.mc_text.specs.Points.{point_of, last_head}
+use Rattle.mc_text.specs.Points.{point_of}
 use Rattle.mc_text.specs.Judged.{Words, Lines}
 use Rattle.mc_text.specs.Lists.{names_in, names_at, operand_at}
 use Rattle.mc_text.proofs.Going.{head_at}
@@ -33,20 +33,17 @@ use Rattle.mc_pattern_text.specs.Value.{spelled_command, spelled_commands}
 use Rattle.mc_pattern_text.specs.Judge.{measured_in, is_settled, pattern_rules}
 use Rattle.mc_pattern_text.specs.Canonical.{command_line, pattern_lines}
 use Rattle.mc_pattern_text.specs.ChangeRows.{measured_order}
-use Rattle.mc_pattern_text.proofs.NamedSignals.{all_front}
 use Rattle.mc_pattern_text.proofs.NamedCommands.{measured_there}
 use Rattle.mc_pattern_text.proofs.CleanCommands.{IsAfter, AreThere, front_distinct, front_more, known_clean, measured_held, held_written}
 use Rattle.mc_pattern_text.proofs.CleanLines.{command_clean}
-
-pub last_head-next : (before : Lines) (here : Words) → last_head (before ++ here ∷ []) ≡ head_in here
-last_head-next before here =
-    fold-append (λ (last : Option Head) (line : Words). head_in line) None before (here ∷ [])
+use Rattle.mc_pattern_text.proofs.Parts.{all_front, and_both, last_head-line}
 
 -- the lines of one command more
 after_by : (ns : List Name) (inputs : ℕ) (before : Lines) (done : List Command) (c : Command)
     (here : Words) → IsAfter ns inputs before done
     → names_at is_defining before here ≡ take (inputs + prepared (done ++ c ∷ [])) ns
-    → filter_map (operand_at 0 is_measuring) (here ∷ []) ≡ map (name_at ns) (measured_order (c ∷ []))
+    → filter_map (operand_at 0 is_measuring) (here ∷ [])
+    ≡ map (name_at ns) (measured_order (c ∷ []))
     → names_at is_output before here ≡ names_at is_output before []
     → ((h : Option Head) → may_follow (head_in here) h ≡ follows_command h)
     → length (filter_map spelled_command (here ∷ [])) ≡ 1
@@ -62,23 +59,26 @@ after_by ns inputs before done c here h defined operand outputs follows spelled 
         map-append (name_at ns) (measured_order done) (measured_order (c ∷ [])),
       ) refl;
   none = names_at-line is_output before here ∙ outputs ∙ h.none;
-  takes = λ head. rw (last_head-next before here) (follows head);
+  takes = λ head. rw (last_head-line before here) (follows head);
   count =
       let count = h.count in
-      let lines = length-append (spelled_commands before) (filter_map spelled_command (here ∷ [])) in
+      let lines = length-append (spelled_commands before)
+      (filter_map spelled_command (here ∷ [])) in
       let commands = length-append done (c ∷ []) in
       ap length (filter_map-append spelled_command before (here ∷ []))
       ∙ omega (arith, count, lines, commands, spelled);
 }
 
 same_count : (ns : List Name) (inputs : ℕ) (done : List Command) (c : Command)
-    → prepared (c ∷ []) ≡ 0 → take (inputs + prepared done) ns ≡ take (inputs + prepared (done ++ c ∷ [])) ns
+    → prepared (c ∷ []) ≡ 0 → take (inputs + prepared done) ns
+    ≡ take (inputs + prepared (done ++ c ∷ [])) ns
 same_count ns inputs done c none =
     let both = prepared-append done (c ∷ []) in
     let same : prepared done ≡ prepared (done ++ c ∷ []) = omega (arith, both, none) in
     rw same refl
 
-pub command_after : (ns : List Name) (inputs : ℕ) (before : Lines) (done : List Command) (c : Command)
+pub command_after : (ns : List Name) (inputs : ℕ) (before : Lines) (done : List Command)
+    (c : Command)
     → IsAfter ns inputs before done → FitsBehind inputs done c
     → inputs + prepared (done ++ c ∷ []) ≤ length ns
     → IsAfter ns inputs (before ++ command_line ns c ∷ []) (done ++ c ∷ [])
@@ -118,11 +118,13 @@ commands_clean : (half : ℕ) (ns : List Name) (inputs : ℕ) (before : Lines) (
     (tail : Lines) → IsAfter ns inputs before done → AreNames ns → IsTrue (is_permitted half)
     → IsValid inputs (done ++ cs) → inputs + prepared (done ++ cs) ≤ length ns
     → length (done ++ cs) ≤ 262144 → AllTyped half cs
-    → ((before' : Lines) → IsAfter ns inputs before' (done ++ cs) → Clean pattern_rules before' tail)
+    → ((before' : Lines) → IsAfter ns inputs before' (done ++ cs)
+    → Clean pattern_rules before' tail)
     → Clean pattern_rules before (map (command_line ns) cs ++ tail)
 commands_clean half ns inputs before done [] tail h names permitted valid within few typed rest =
     rest before (rw (append-nil done) h)
-commands_clean half ns inputs before done (c ∷ cs) tail h names permitted valid within few typed rest =
+commands_clean half ns inputs before done (c ∷ cs) tail h names permitted valid within few typed
+    rest =
     let next : (done ++ c ∷ []) ++ cs ≡ done ++ (c ∷ cs) = append_assoc done (c ∷ []) cs in
     let fits = valid.at done c cs refl in
     let whole = prepared-append done (c ∷ cs) in
@@ -149,7 +151,11 @@ role_at : (before : Lines) (h : List ℕ) (list : Words)
     → role_of (point_of before (h ∷ list))
     ≡ role_in (head_of h) (point_of before (h ∷ list)).count (point_of before (h ∷ list)).mark
 role_at before h list =
-    rw (ne_eqb (point_of before (h ∷ list)).count 0 (count_some before h list), head_at before (h ∷ list)) refl
+    rw (
+      ne_eqb (point_of before (h ∷ list)).count 0 (count_some before h list),
+      head_at before
+          (h ∷ list),
+    ) refl
 
 names_here : (test : Option Head → Bool) (before : Lines) (h : List ℕ) (ws : Words)
     → names_at test before (h ∷ ws)
@@ -169,10 +175,6 @@ inputs_clean ws (p ∷ ps) named distinct few =
       inputs_clean (ws ++ p ∷ []) ps both.1 (rw next distinct) (rw next few),
     )
   where
-    and_both : (a b : Bool) → (a && b) ≡ true → (a ≡ true) × (b ≡ true)
-    and_both true b e = (refl, e)
-    and_both false b e = absurd (cc e)
-
     late : (n : ℕ) → n < 256 → nat_le 256 n ≡ false
     late n lt = grind (arith, nat_tests)
 
@@ -189,7 +191,8 @@ count_front q done qs once =
     let one : ℕ = 1 in
     let same : cond (nat_eq q q) 1 0 ≡ one = rw (eq-eqb q q refl) refl in
     elim (cases_Bool (is_member done q)) [
-      | inl is ↦ let some = member_counts done q is in absurd (omega (arith, both, here, same, once, some))
+      | inl is ↦ let some = member_counts done q is in absurd
+          (omega (arith, both, here, same, once, some))
       | inr none ↦ none
     ]
 
@@ -282,10 +285,6 @@ outputs_clean ns inputs before done listed (q ∷ qs) h whole due =
     )
 
 -- the whole text
-and_both : (a b : Bool) → (a && b) ≡ true → (a ≡ true) × (b ≡ true)
-and_both true b e = (refl, e)
-and_both false b e = absurd (cc e)
-
 all_named : (m : ℕ) (ns : List Name) → list_all is_name ns ≡ true
     → list_all is_name (take m ns) ≡ true
 all_named zero ns all = refl
@@ -316,13 +315,18 @@ pattern_clean half p h permitted =
     let out = codes "out" ∷ map (name_at ns) p.outputs in
     let end = (codes "end" ∷ []) ∷ [] in
     let qubits = h.valid.qubits in
-    let distinct = front_distinct ins (drop p.inputs ns) (rw (take-append-drop p.inputs ns) valid.distinct) in
+    let distinct = front_distinct ins (drop p.inputs ns)
+    (rw (take-append-drop p.inputs ns) valid.distinct) in
     let few = valid.few in
     let long = length-take-le p.inputs ns (omega (arith, qubits)) in
     let begun : IsAfter ns p.inputs ((codes "in" ∷ ins) ∷ []) [] =
     inputs_after ns p.inputs in
-    more [] (codes "in" ∷ ins) (map (command_line ns) p.commands ++ out ∷ end)
-    (refl, inputs_clean [] ins (all_named p.inputs ns (list_all-from_AllPass is_name ns valid.valid)) distinct (omega (arith, long, few, qubits)))
+    more [] (codes "in" ∷ ins) (map (command_line ns) p.commands ++ out ∷ end) (
+      refl,
+      inputs_clean [] ins
+          (all_named p.inputs ns (list_all-from_AllPass is_name ns valid.valid)) distinct
+          (omega (arith, long, few, qubits)),
+    )
     refl
     (commands_clean half ns p.inputs ((codes "in" ∷ ins) ∷ []) [] p.commands (out ∷ end) begun valid
     permitted h.valid.commands (omega (arith, qubits)) h.few h.typed (λ before' after.
@@ -334,7 +338,7 @@ pattern_clean half p h permitted =
           (rw (append-nil p.commands) h.valid.commands) is;
     } in
     let takes = after.takes (Some Out) in
-    let follows = last_head-next before' out in
+    let follows = last_head-line before' out in
     more before' out end (
       rw takes refl,
       outputs_clean ns p.inputs before' p.commands [] p.outputs there (sym qubits)

@@ -1,3 +1,4 @@
+pub mod Parts
 pub mod NamedCommands
 pub mod Printing
 pub mod RisingSets

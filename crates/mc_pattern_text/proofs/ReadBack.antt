@@ -1,5 +1,5 @@
 -- The canonical text of a pattern is read without a fault, as that pattern.
-use Rattle.std.proofs.Common.{◌≡◌, ℕ, zero, suc, ◌+◌, ◌<◌, ◌≤◌, Bool, true, false, ◌&&◌, All, List, [], ◌∷◌, ◌++◌, length, map, take, codes, refl, sym, ap, ap₂, ◌∙◌, append_assoc, arith, Option, Some, None, IsTrue, if◌then◌else◌}
+use Rattle.std.proofs.Common.{◌≡◌, ℕ, zero, suc, ◌+◌, ◌<◌, ◌≤◌, Bool, true, false, All, List, [], ◌∷◌, ◌++◌, length, map, take, codes, refl, sym, ap, ap₂, ◌∙◌, append_assoc, arith, Option, Some, None, IsTrue, if◌then◌else◌}
 use Rattle.std.specs.Fmt.{decimal}
 use Rattle.std.specs.List.{filter_map, flat_map, list_all}
 use Rattle.std.proofs.lemmas.Bool.{eqb-true}
@@ -39,12 +39,9 @@ use Rattle.mc_pattern_text.proofs.NamedSignals.{names_written, signal_back}
 use Rattle.mc_pattern_text.proofs.CleanCommands.{IsAfter}
 use Rattle.mc_pattern_text.proofs.CleanLines.{names_unmarked, under-append, two_under, decimal_no_mark}
 use Rattle.mc_pattern_text.proofs.CleanText.{command_after, inputs_after, pattern_clean}
+use Rattle.mc_pattern_text.proofs.Parts.{and_both}
 
 -- the canonical lines can be written
-and_both : (a b : Bool) → (a && b) ≡ true → (a ≡ true) × (b ≡ true)
-and_both true b e = (refl, e)
-and_both false b e = absurd (cc e)
-
 front_written : (m : ℕ) (ns : List Name) → list_all is_name ns ≡ true
     → list_all is_written (take m ns) ≡ true
 front_written zero ns all = refl
@@ -53,7 +50,8 @@ front_written (suc m) (n ∷ ns) all =
     let both = and_both (is_name n) (list_all is_name ns) all in
     rw (name_written n both.0, front_written m ns both.1) refl
 
-marked_written : (mark : List ℕ) (ns : List Name) (qs : List ℕ) → is_written mark ≡ true → AreNames ns
+marked_written : (mark : List ℕ) (ns : List Name) (qs : List ℕ) → is_written mark ≡ true
+    → AreNames ns
     → All (λ q. q < length ns) qs → list_all is_written (marked mark ns qs) ≡ true
 marked_written mark ns [] written valid below = refl
 marked_written mark ns (q ∷ qs) written valid below =
@@ -63,7 +61,8 @@ marked_written mark ns (q ∷ qs) written valid below =
 name_of : (ns : List Name) (q : ℕ) → AreNames ns → q < length ns → is_written (name_at ns q) ≡ true
 name_of ns q valid lt = name_written (name_at ns q) (is_name-name_at ns q valid lt)
 
-command_written : (half : ℕ) (ns : List Name) (c : Command) → AreNames ns → IsTrue (is_permitted half)
+command_written : (half : ℕ) (ns : List Name) (c : Command) → AreNames ns
+    → IsTrue (is_permitted half)
     → IsNamed (length ns) c → IsTyped half c → is_written_line (command_line ns c) ≡ true
 command_written half ns (Prep q) valid permitted named typed =
     let first = name_of ns q valid named in rw first refl
@@ -103,8 +102,10 @@ pattern_written : (half : ℕ) (p : Pattern) → IsPattern half p → IsTrue (is
     → list_all is_written_line ((codes "pattern" ∷ codes "1" ∷ []) ∷ pattern_lines p) ≡ true
 pattern_written half p h permitted =
     let valid = h.valid.names in
-    let inputs = front_written p.inputs p.names (list_all-from_AllPass is_name p.names valid.valid) in
-    let commands = commands_written half p.names p.commands valid permitted (pattern_named p h.valid) h.typed in
+    let inputs = front_written p.inputs p.names
+    (list_all-from_AllPass is_name p.names valid.valid) in
+    let commands = commands_written half p.names p.commands valid permitted
+    (pattern_named p h.valid) h.typed in
     let outputs = names_written p.names p.outputs valid h.valid.outputs.below in
     let out = codes "out" ∷ map (name_at p.names) p.outputs in
     let end = (codes "end" ∷ []) ∷ [] in
@@ -120,14 +121,16 @@ if_both : (t : Bool) → let none : Words = [] in none ≡ (if t then none else 
 if_both true = refl
 if_both false = refl
 
-s_under : (test : Option Mark → Bool) (mark : Option Mark) (ns : List Name) (qs : List ℕ) → AreNames ns
+s_under : (test : Option Mark → Bool) (mark : Option Mark) (ns : List Name) (qs : List ℕ)
+    → AreNames ns
     → All (λ q. q < length ns) qs
     → words_under test mark (marked (codes "s:") ns qs)
     ≡ (if test (Some S) then map (name_at ns) qs else [])
 s_under test mark ns [] valid below = if_both (test (Some S))
 s_under test mark ns (q ∷ qs) valid below = (names_unmarked ns (q ∷ qs) valid below (Some S)).1 test
 
-t_under : (test : Option Mark → Bool) (mark : Option Mark) (ns : List Name) (qs : List ℕ) → AreNames ns
+t_under : (test : Option Mark → Bool) (mark : Option Mark) (ns : List Name) (qs : List ℕ)
+    → AreNames ns
     → All (λ q. q < length ns) qs
     → words_under test mark (marked (codes "t:") ns qs)
     ≡ (if test (Some T) then map (name_at ns) qs else [])
@@ -159,9 +162,11 @@ meas_back half ns q a s t valid permitted named typed =
     let w = name_at ns q in
     let no_w = name_no_mark w (is_name-name_at ns q valid named.0) in
     let no_a = decimal_no_mark half a permitted typed.0 in
-    let first = both_under is_first ns w (decimal a) s.members t.members no_w no_a valid named.1 named.2 refl
+    let first = both_under is_first ns w (decimal a) s.members t.members no_w no_a valid named.1
+    named.2 refl
     ∙ append-nil (map (name_at ns) s.members) in
-    let second = both_under is_second ns w (decimal a) s.members t.members no_w no_a valid named.1 named.2
+    let second = both_under is_second ns w (decimal a) s.members t.members no_w no_a valid named.1
+    named.2
     refl in
     let number = number-name_at ns q valid.distinct named.0 in
     let angle = (angle-decimal half a permitted typed.0).1 in
@@ -213,7 +218,8 @@ commands_after ns inputs before done (c ∷ cs) h valid within =
     let part = prepared-append (done ++ c ∷ []) cs in
     let same = ap prepared next in
     let later = commands_after ns inputs (before ++ command_line ns c ∷ []) (done ++ c ∷ []) cs
-    (command_after ns inputs before done c h (valid.at done c cs refl) (omega (arith, within, part, same)))
+    (command_after ns inputs before done c h (valid.at done c cs refl)
+    (omega (arith, within, part, same)))
     (rw next valid) (rw next within) in
     rw (lines, next) at later
 
@@ -228,7 +234,8 @@ no_inputs ns (FixZ q s ∷ cs) = no_inputs ns cs
 
 names_of : (test : Option Head → Bool) (p : Pattern)
     → names_at test (pattern_lines p) []
-    ≡ names_at test ((codes "in" ∷ take p.inputs p.names) ∷ map (command_line p.names) p.commands) []
+    ≡ names_at test ((codes "in" ∷ take p.inputs p.names) ∷ map (command_line p.names) p.commands)
+    []
     ++ (names_in test (codes "out" ∷ map (name_at p.names) p.outputs)
     ++ names_in test (codes "end" ∷ []))
 names_of test p =
@@ -270,7 +277,8 @@ pattern_back half p h permitted =
     filter_map-append spelled_command (map (command_line ns) p.commands)
     ((codes "out" ∷ map (name_at ns) p.outputs) ∷ (codes "end" ∷ []) ∷ [])
     ∙ append-nil (filter_map spelled_command (map (command_line ns) p.commands)) in
-    let commands = commands_back half ns p.commands valid permitted (pattern_named p h.valid) h.typed in
+    let commands = commands_back half ns p.commands valid permitted (pattern_named p h.valid)
+    h.typed in
     rw (defined, inputs, few, listed, ← are.numbers_are, spelled, commands) refl
 
 pub text_read : (half : ℕ) (p : Pattern) → IsPattern half p → IsTrue (is_permitted half)
@@ -278,7 +286,8 @@ pub text_read : (half : ℕ) (p : Pattern) → IsPattern half p → IsTrue (is_p
     (end_of (pattern_text p))
 text_read half p h permitted =
     written_read pattern_rules (codes "pattern" ∷ codes "1" ∷ []) (pattern_lines p)
-    (end_of (pattern_text p)) (pattern_written half p h permitted) (pattern_clean half p h permitted)
+    (end_of (pattern_text p)) (pattern_written half p h permitted)
+    (pattern_clean half p h permitted)
 
 pub text_back : (half : ℕ) (p : Pattern) → IsPattern half p → IsTrue (is_permitted half)
     → pattern_of half (section_lines (behind_header (pattern_text p))) ≡ p
