@@ -9,6 +9,7 @@ mod command;
 mod fitting;
 mod laws;
 mod outputs;
+mod parts;
 mod pattern;
 mod rules;
 #[cfg(test)]

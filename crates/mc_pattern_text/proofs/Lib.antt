@@ -1,2 +1,3 @@
 pub mod NamedCommands
 pub mod Printing
+pub mod Marked
