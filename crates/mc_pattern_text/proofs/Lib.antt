@@ -4,3 +4,6 @@ pub mod Marked
 pub mod Under
 pub mod Keeping
 pub mod KeepingWord
+pub mod Sets
+pub mod Made
+pub mod MadeLine

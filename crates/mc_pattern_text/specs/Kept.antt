@@ -245,6 +245,7 @@ pub record Ends {half : ℕ} (k k' : Reader half) (p : Point) : Type 0 where
       ++ option_to_list (command_with p.head k.operands)
   pub marks : k.operands.first < 256
       → bits_of k'.marks ≡ marks_with p.head k.operands.first (bits_of k.marks)
+  pub same_marks : is_measuring p.head ≡ false → k'.marks ≡ k.marks
   pub long : length k'.marks ≡ 256
   pub s : k'.operands.s ≡ []
   pub t : k'.operands.t ≡ []

@@ -1,6 +1,6 @@
 //! What the words and the ends of the lines of a pattern do.
 
-ghost use Rattle.std.specs.Prelude.{◌≡◌, ◌↔◌, ℕ, ◌<◌, ◌≤◌, List, Option, true, ◌∷◌, [], ◌++◌, ◌||◌, length, map, option_to_list, OnOk, OnErr, IfErr, IsTrue, Err, Some, None, nat_eq};
+ghost use Rattle.std.specs.Prelude.{◌≡◌, ◌↔◌, ℕ, ◌<◌, ◌≤◌, List, Option, true, false, ◌∷◌, [], ◌++◌, ◌||◌, length, map, option_to_list, OnOk, OnErr, IfErr, IsTrue, Err, Some, None, nat_eq};
 ghost use Rattle.std.specs.List.{list_any, list_all};
 ghost use Rattle.std.specs.Option.{option_map};
 ghost use Rattle.mc_pattern.specs.Commands.{plain_command};
@@ -10,7 +10,7 @@ ghost use Rattle.mc_signal.specs.Outcomes.{bits_of};
 ghost use Rattle.mc_model.specs.Names.{place_of};
 ghost use Rattle.mc_text.specs.Rules.{new_name, AreNumbers};
 ghost use Rattle.mc_text.specs.Stops.{IsStop};
-ghost use Rattle.mc_pattern_text.specs.Roles.{role_of, may_follow, is_command as command_word};
+ghost use Rattle.mc_pattern_text.specs.Roles.{role_of, may_follow, is_command as command_word, is_measuring};
 ghost use Rattle.mc_pattern_text.specs.Judge.{judge_by, lacks_by, next_record, output_name, is_settled};
 ghost use Rattle.mc_pattern_text.specs.Kept.{AreMarked, Stands, Lists, Moves, Ends, known_by, marks_with};
 
@@ -205,6 +205,7 @@ fn end_words(
 fn mark(marks: &mut [bool], head: Option<Head>, q: u16)
     ensures long { length marks.new ≡ length marks.old }
     ensures set { q < length marks.old → bits_of marks.new ≡ marks_with head q (bits_of marks.old) }
+    ensures other { is_measuring head ≡ false → marks.new ≡ marks.old }
 {
     let q = q as usize;
     match head {
