@@ -103,7 +103,7 @@ stands_at k before here p h e = record {
   operand = λ two gate. operand_there before here p k.names k.operands.first e two gate h.operands.place;
 }
 
-count_kept : {half : ℕ} (k : Reader half) (before : Lines) (here : Words) → IsKept k before here
+pub count_kept : {half : ℕ} (k : Reader half) (before : Lines) (here : Words) → IsKept k before here
     → length (spelled_commands before) ≡ length k.commands.items
 count_kept {half} k before here h =
     let same = ap length (h.commands []) in

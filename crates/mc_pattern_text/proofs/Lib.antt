@@ -7,3 +7,4 @@ pub mod KeepingWord
 pub mod Sets
 pub mod Made
 pub mod MadeLine
+pub mod KeepingLine
