@@ -193,7 +193,7 @@ commands_line f commands c before here all one =
     ) refl
 
 -- nothing is kept of the words of a line that has not begun
-no_operands : {half : ℕ} (names : List (List ℕ)) (marks : Bits) (o : Operands half) → o.s ≡ []
+pub no_operands : {half : ℕ} (names : List (List ℕ)) (marks : Bits) (o : Operands half) → o.s ≡ []
     → o.t ≡ [] → AreOperands names marks o []
 no_operands names marks o s t = record {
   place = λ a none. absurd (cc none);

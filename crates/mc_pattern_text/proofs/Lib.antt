@@ -8,3 +8,5 @@ pub mod Sets
 pub mod Made
 pub mod MadeLine
 pub mod KeepingLine
+pub mod Spelling
+pub mod Starting
