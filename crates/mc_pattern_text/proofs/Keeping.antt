@@ -1,10 +1,9 @@
 -- What is kept of the words of a line goes on with one more word.
-use Rattle.std.proofs.Common.{◌≡◌, ℕ, zero, suc, ◌+◌, ◌<◌, ◌≤◌, List, [], ◌∷◌, ◌++◌, Bool, true, false, not, ◌||◌, ◌&&◌, Option, Some, None, length, map, refl, sym, subst, ap, ◌∙◌, length-append, arith, ◌==◌, ne_eqb, nat_eq, if◌then◌else◌, ◌⊎◌, inl, inr}
-use Rattle.std.specs.List.{list_any, list_all, slice_get}
-use Rattle.std.proofs.lemmas.Bool.{eqb-true, true≢false, cases_eq, eq-eqb}
-use Rattle.std.proofs.lemmas.Bool.Decides.{nat_tests}
+use Rattle.std.proofs.Common.{◌≡◌, ℕ, zero, suc, ◌+◌, ◌<◌, List, [], ◌∷◌, ◌++◌, Bool, true, false, ◌||◌, ◌&&◌, Option, Some, None, length, map, refl, sym, subst, ap, ◌∙◌, arith, ◌==◌, nat_eq, ◌⊎◌, inl, inr}
+use Rattle.std.specs.List.{list_all, slice_get}
+use Rattle.std.proofs.lemmas.Bool.{eqb-true}
 use Rattle.std.proofs.lemmas.List.{append-nil, map-append}
-use Rattle.std.proofs.lemmas.List.Folds.{list_all-append, list_any-append}
+use Rattle.std.proofs.lemmas.List.Folds.{list_all-append}
 use Rattle.mc_model.specs.Bits.{Bits}
 use Rattle.mc_model.specs.Numbers.{is_member}
 use Rattle.mc_model.specs.Names.{is_held, place_of}
@@ -16,7 +15,6 @@ use Rattle.mc_text.specs.Points.{mark_of, point_of}
 use Rattle.mc_text.specs.Judged.{Words, Lines}
 use Rattle.mc_text.specs.Rules.{number_in}
 use Rattle.mc_text.specs.Lists.{operand_at, next_operand}
-use Rattle.mc_text.proofs.Going.{head_at}
 use Rattle.mc_text.proofs.Numbers.{held-place, place-held}
 use Rattle.mc_text.proofs.Kept.{count_at, place-more, number_in-more, operand_at-word, name_no_mark}
 use Rattle.mc_pattern_text.specs.declared.reader.Operands.{Operands}

@@ -1,12 +1,11 @@
 -- A word with nothing against it is kept.
-use Rattle.std.proofs.Common.{◌≡◌, ℕ, ◌+◌, ◌<◌, ◌≤◌, List, [], ◌∷◌, ◌++◌, Bool, true, false, not, ◌&&◌, ◌||◌, Option, Some, None, length, map, refl, sym, ap, ◌∙◌, append_assoc, length-append, arith, ◌==◌, ne_eqb, nat_le, if◌then◌else◌, ◌⊎◌, inl, inr}
+use Rattle.std.proofs.Common.{◌≡◌, ℕ, ◌<◌, ◌≤◌, List, [], ◌∷◌, ◌++◌, Bool, true, false, Option, Some, None, length, refl, sym, ap, ◌∙◌, append_assoc, length-append, arith, ◌==◌, ne_eqb, nat_le, if◌then◌else◌, ◌⊎◌, inl, inr}
 use Rattle.std.specs.List.{list_all, IsDistinct}
 use Rattle.std.specs.Cmp.Lexicographic.{nat_list_eq_equiv}
 use Rattle.std.proofs.lemmas.Bool.Decides.{nat_tests}
 use Rattle.std.proofs.lemmas.List.{append-nil, length-map}
 use Rattle.std.proofs.lemmas.List.Folds.{list_all-append}
 use Rattle.std.proofs.lemmas.Map.Keys.{IsDistinct-push}
-use Rattle.mc_model.specs.Bits.{Bits}
 use Rattle.mc_model.specs.Numbers.{is_member}
 use Rattle.mc_model.specs.Names.{name_eq, is_name, is_held, place_of}
 use Rattle.mc_signal.specs.Outcomes.{bits_of}
@@ -21,13 +20,12 @@ use Rattle.mc_text.specs.Lists.{names_at, added, operand_at}
 use Rattle.mc_text.proofs.Going.{head_at}
 use Rattle.mc_text.proofs.Kept.{count_at, names_at-word, added_none, numbers-word}
 use Rattle.mc_text.proofs.Kept as lists
-use Rattle.mc_pattern.specs.Commands.{plain_command}
 use Rattle.mc_pattern_text.specs.declared.reader.Reader.{Reader}
 use Rattle.mc_pattern_text.specs.declared.reader.Operands.{Operands}
-use Rattle.mc_pattern_text.specs.Roles.{may_follow, role_of, is_defining, is_input, is_preparing, is_entangling, is_command, has_operand, is_output, is_ending}
+use Rattle.mc_pattern_text.specs.Roles.{may_follow, role_of, is_defining, is_input, is_preparing, is_entangling, is_command, has_operand, is_output}
 use Rattle.mc_pattern_text.specs.Value.{spelled_commands}
 use Rattle.mc_pattern_text.specs.Judge.{Known, measured_in, first_signal, second_signal, is_in_second, known_at, is_settled, output_name, next_record, judge_by, pattern_rules}
-use Rattle.mc_pattern_text.specs.Kept.{IsKept, AreMarked, AreOperands, IsOperand, Stands, set_at, known_by, Lists, Moves, is_still, opens, is_closed}
+use Rattle.mc_pattern_text.specs.Kept.{IsKept, AreMarked, AreOperands, IsOperand, Stands, known_by, Lists, Moves, is_still, opens, is_closed}
 use Rattle.mc_pattern_text.proofs.Keeping.{marked-more, operands_more}
 
 -- record words by their tests

@@ -1,38 +1,31 @@
 -- The command that a line makes: it is the one that the line spells, and it may stand where it stands.
-use Rattle.std.proofs.Common.{◌≡◌, ℕ, ◌+◌, ◌*◌, ◌<◌, ◌≤◌, List, [], ◌∷◌, ◌++◌, Bool, true, false, not, ◌||◌, Option, Some, None, length, map, drop, refl, sym, ap, ◌∙◌, arith, nat_eq, nat_lt, lt-ltb, ne_eqb, if◌then◌else◌, ◌⊎◌, inl, inr}
+use Rattle.std.proofs.Common.{◌≡◌, ℕ, ◌<◌, List, [], ◌∷◌, ◌++◌, Bool, false, Option, Some, None, length, map, refl, sym, ap, ◌∙◌, lt-ltb, ne_eqb, if◌then◌else◌}
 use Rattle.std.specs.List.{list_any, flat_map}
-use Rattle.std.specs.Option.{option_map, option_to_list}
+use Rattle.std.specs.Option.{option_map}
 use Rattle.std.proofs.lemmas.List.{append-nil, length-map}
-use Rattle.std.proofs.lemmas.List.Folds.{list_any-append}
-use Rattle.mc_model.specs.Bits.{Bits, replaced}
-use Rattle.mc_model.specs.Numbers.{is_member}
-use Rattle.mc_model.specs.Names.{Name, AreNames, name_eq, place_of}
+use Rattle.mc_model.specs.Bits.{Bits}
 use Rattle.mc_model.specs.Signals.{IsRising}
 use Rattle.mc_model.specs.Pattern as plain
-use Rattle.mc_model.specs.Valid.{prepared, measured}
-use Rattle.mc_model.proofs.ValidLemmas.{nothing_valid}
 use Rattle.mc_signal.specs.Outcomes.{bits_of}
 use Rattle.mc_text.specs.declared.head.Head.{Head}
-use Rattle.mc_text.specs.declared.head.Head.TheVariants.{In, N, E, M, X, Z}
+use Rattle.mc_text.specs.declared.head.Head.TheVariants.{N, E, M, X, Z}
 use Rattle.mc_text.specs.declared.point.Point.{Point}
 use Rattle.mc_text.specs.Heads.{head_of}
-use Rattle.mc_text.specs.Points.{point_of, last_head}
+use Rattle.mc_text.specs.Points.{point_of}
 use Rattle.mc_text.specs.Judged.{Words, Lines}
 use Rattle.mc_text.specs.Lists.{names_in, names_at}
-use Rattle.mc_text.proofs.Going.{head_at}
 use Rattle.mc_text.proofs.Kept.{number_in-more}
 use Rattle.mc_pattern.specs.Commands.{plain_command}
 use Rattle.mc_pattern.specs.Rules.{is_prep, first_rule, command_rule, is_stranger, is_undone, marked, measured_by}
 use Rattle.mc_pattern.specs.Typed.{IsTyped, IsPlain}
 use Rattle.mc_pattern.specs.Patterns.{IsBuilt, begun}
-use Rattle.mc_pattern.proofs.Built.{built_prep, built_push}
+use Rattle.mc_pattern.proofs.Built.{built_push}
 use Rattle.mc_pattern.proofs.Members.{none_by}
 use Rattle.mc_pattern_text.specs.declared.reader.Reader.{Reader}
-use Rattle.mc_pattern_text.specs.Roles.{may_follow, role_of, is_defining, is_input, is_measuring}
-use Rattle.mc_pattern_text.specs.Value.{is_first, is_second, words_under, spelled_by, spelled_commands, command_by}
+use Rattle.mc_pattern_text.specs.Roles.{role_of, is_defining, is_input}
+use Rattle.mc_pattern_text.specs.Value.{is_first, is_second, words_under, spelled_by, command_by}
 use Rattle.mc_pattern_text.specs.Judge.{first_signal, second_signal, lacks_by}
-use Rattle.mc_pattern_text.specs.Kept.{IsKept, AreOperands, AreDone, AreTyped, Ends, command_with, signal_with}
-use Rattle.mc_pattern_text.proofs.Marked.{place-below, place-last}
+use Rattle.mc_pattern_text.specs.Kept.{IsKept, AreDone, AreTyped, command_with, signal_with}
 use Rattle.mc_pattern_text.proofs.Sets.{signal_same}
 use Rattle.mc_pattern_text.proofs.KeepingWord.{known_of}
 

@@ -1,11 +1,10 @@
 -- The pattern so far is valid behind each line with nothing against it.
-use Rattle.std.proofs.Common.{◌≡◌, ℕ, ◌+◌, ◌*◌, ◌<◌, ◌≤◌, List, [], ◌∷◌, ◌++◌, Bool, true, false, not, ◌||◌, Option, Some, None, length, map, refl, sym, ap, ◌∙◌, arith, if◌then◌else◌}
+use Rattle.std.proofs.Common.{◌≡◌, ℕ, ◌<◌, List, [], ◌∷◌, ◌++◌, Bool, true, false, Option, Some, None, length, map, refl, sym, ap, ◌∙◌, arith}
 use Rattle.std.specs.List.{list_any}
-use Rattle.std.specs.Option.{option_map, option_to_list}
-use Rattle.std.proofs.lemmas.List.{append-nil, length-map}
+use Rattle.std.specs.Option.{option_to_list}
+use Rattle.std.proofs.lemmas.List.{length-map}
 use Rattle.std.proofs.lemmas.List.Folds.{list_any-append}
-use Rattle.mc_model.specs.Bits.{Bits, replaced}
-use Rattle.mc_model.specs.Names.{Name, AreNames, name_eq, place_of}
+use Rattle.mc_model.specs.Names.{Name, AreNames}
 use Rattle.mc_model.specs.Pattern as plain
 use Rattle.mc_model.specs.Valid.{prepared, measured}
 use Rattle.mc_model.proofs.ValidLemmas.{nothing_valid}
@@ -19,7 +18,7 @@ use Rattle.mc_text.specs.Judged.{Words, Lines}
 use Rattle.mc_text.specs.Lists.{names_at}
 use Rattle.mc_text.proofs.Going.{head_at}
 use Rattle.mc_pattern.specs.Commands.{plain_command}
-use Rattle.mc_pattern.specs.Rules.{is_undone, command_rule}
+use Rattle.mc_pattern.specs.Rules.{is_undone}
 use Rattle.mc_pattern.specs.Patterns.{IsBuilt, begun}
 use Rattle.mc_pattern.proofs.Built.{built_prep}
 use Rattle.mc_pattern_text.specs.declared.reader.Reader.{Reader}

@@ -1,5 +1,5 @@
 -- What is kept at the end is the pattern that the lines spell, and it is valid.
-use Rattle.std.proofs.Common.{◌≡◌, ℕ, ◌<◌, List, [], ◌∷◌, ◌++◌, Bool, true, false, not, ◌||◌, ◌&&◌, Option, Some, length, map, get_or, refl, sym, ap, ◌∙◌, ◌⊎◌, inl, inr}
+use Rattle.std.proofs.Common.{◌≡◌, ℕ, List, [], ◌∷◌, Bool, true, false, not, ◌||◌, ◌&&◌, Some, length, map, get_or, refl, sym, ap, ◌∙◌, inl, inr}
 use Rattle.std.specs.List.{list_all}
 use Rattle.std.proofs.lemmas.Bool.{cases_Bool}
 use Rattle.std.proofs.lemmas.List.{append-nil}
@@ -20,7 +20,7 @@ use Rattle.mc_text.proofs.Listed.{place_at, ListsOnce-listed}
 use Rattle.mc_pattern.specs.Commands.{plain_command}
 use Rattle.mc_pattern.specs.Patterns.{IsPattern, begun, with_outputs}
 use Rattle.mc_pattern_text.specs.declared.reader.Reader.{Reader}
-use Rattle.mc_pattern_text.specs.Roles.{is_defining, is_output}
+use Rattle.mc_pattern_text.specs.Roles.{is_output}
 use Rattle.mc_pattern_text.specs.Value.{pattern_of}
 use Rattle.mc_pattern_text.specs.Judge.{measured_in, is_settled}
 use Rattle.mc_pattern_text.specs.Kept.{IsKept, is_still}

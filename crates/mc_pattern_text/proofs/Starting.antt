@@ -1,11 +1,10 @@
 -- What is kept before the first line.
-use Rattle.std.proofs.Common.{◌≡◌, ℕ, List, [], Bool, true, false, replicate, All, length, map, refl, ap, arith, None, Some}
+use Rattle.std.proofs.Common.{◌≡◌, ℕ, List, [], Bool, false, replicate, refl, ap, arith}
 use Rattle.std.specs.List.{IsDistinct}
 use Rattle.mc_model.specs.Bits.{Bits}
-use Rattle.mc_model.specs.Names.{AreNames, name_eq}
+use Rattle.mc_model.specs.Names.{AreNames}
 use Rattle.mc_model.specs.Valid.{measured}
 use Rattle.mc_signal.specs.Outcomes.{bits_of}
-use Rattle.mc_pattern.specs.Commands.{plain_command}
 use Rattle.mc_pattern.specs.Patterns.{IsBuilt, begun}
 use Rattle.mc_pattern.proofs.Built.{built_start}
 use Rattle.mc_pattern_text.specs.declared.reader.Reader.{Reader}

@@ -1,10 +1,9 @@
 -- The words of a line behind its marks, with one more word.
-use Rattle.std.proofs.Common.{◌≡◌, ℕ, suc, ◌+◌, ◌<◌, ◌≤◌, List, [], ◌∷◌, ◌++◌, Bool, true, false, Option, Some, None, length, drop, fold, refl, sym, ap, ◌∙◌, append_assoc, arith, ◌==◌, ne_eqb, if◌then◌else◌, is_some, ◌⊎◌, inl, inr}
+use Rattle.std.proofs.Common.{◌≡◌, ℕ, ◌<◌, List, [], ◌∷◌, ◌++◌, Bool, true, false, Option, Some, None, drop, fold, refl, sym, ap, ◌∙◌, append_assoc, arith, ◌==◌, ne_eqb, if◌then◌else◌, is_some, ◌⊎◌, inl, inr}
 use Rattle.std.specs.Option.{option_or}
-use Rattle.std.proofs.lemmas.Bool.{eq-eqb}
 use Rattle.std.proofs.lemmas.List.{append-nil}
 use Rattle.mc_text.specs.declared.head.Head.{Head}
-use Rattle.mc_text.specs.declared.head.Head.TheVariants.{M, X, Z}
+use Rattle.mc_text.specs.declared.head.Head.TheVariants.{M}
 use Rattle.mc_text.specs.declared.point.Mark.{Mark}
 use Rattle.mc_text.specs.declared.point.Point.{Point}
 use Rattle.mc_text.specs.Heads.{head_of}

@@ -162,12 +162,7 @@ fn take_angle<const H: usize>(kept: &mut Angle<H>, word: &[u8]) -> Result<(), St
 }
 
 /// Takes a member of a signal.
-fn take_member(
-    names: &Names,
-    marks: &[bool],
-    members: &mut QSet,
-    word: &[u8],
-) -> Result<(), Stop>
+fn take_member(names: &Names, marks: &[bool], members: &mut QSet, word: &[u8]) -> Result<(), Stop>
     ensures clean { OnOk result ((measured list : List (List ℕ)) → AreMarked names.now measured (bits_of marks.now)
         → AreMarked names.now list (is_member members.old)
         → member_name names.now measured list word.now ≡ None) }

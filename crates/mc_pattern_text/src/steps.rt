@@ -132,7 +132,7 @@ pub(crate) fn take<const H: usize>(
         → Stands kept.old.names (bits_of kept.old.marks) kept.old.operands point measured members first
         → AreNumbers kept.old.names listed kept.old.outputs.items
         → IsStop stop (judge_by (known_by kept.old.names measured listed members first (length kept.old.commands.items))
-            point.last (role_of point) word.now)) }
+        point.last (role_of point) word.now)) }
 {
     match (point.head, point.count) {
         (_, 0) => take_record(point.last, kept.commands.len(), word),
@@ -173,12 +173,7 @@ fn settles_each(names: &Names, marks: &[bool], numbers: &[u16]) -> bool
 }
 
 /// Judges the end of a line.
-fn end_words(
-    names: &Names,
-    marks: &[bool],
-    outputs: &[u16],
-    point: Point,
-) -> Result<(), Stop>
+fn end_words(names: &Names, marks: &[bool], outputs: &[u16], point: Point) -> Result<(), Stop>
     ensures clean { OnOk result ((measured listed members : List (List ℕ)) (first : Option (List ℕ)) (commands : ℕ)
         → AreMarked names.now measured (bits_of marks.now) → AreNumbers names.now listed outputs.now
         → lacks_by (known_by names.now measured listed members first commands) (role_of point) ≡ None) }

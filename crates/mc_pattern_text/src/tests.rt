@@ -90,10 +90,25 @@ fn reads_signals(rt: HostRuntime) -> Result<(), Fail> {
 #[test]
 fn answers_first_faults(rt: HostRuntime) {
     for (text, code, line, column) in [
-        ("pattern 1\nin a b\nm a 0 s: b\nm b 0\nout\nend\n", 17, 3, 10),
+        (
+            "pattern 1\nin a b\nm a 0 s: b\nm b 0\nout\nend\n",
+            17,
+            3,
+            10,
+        ),
         ("pattern 1\nin a\nm a 0 s: a\nout\nend\n", 17, 3, 10),
-        ("pattern 1\nin a b\nm a 0\nm b 0 s: a a\nout\nend\n", 18, 4, 12),
-        ("pattern 1\nin a b\nm a 0\nm b 0 s: s: a\nout\nend\n", 9, 4, 10),
+        (
+            "pattern 1\nin a b\nm a 0\nm b 0 s: a a\nout\nend\n",
+            18,
+            4,
+            12,
+        ),
+        (
+            "pattern 1\nin a b\nm a 0\nm b 0 s: s: a\nout\nend\n",
+            9,
+            4,
+            10,
+        ),
         ("pattern 1\nin a b\nm a 0\nm b 0 a\nout\nend\n", 6, 4, 7),
         ("pattern 1\nin a b\nm a 0\ne b a\nout b\nend\n", 14, 4, 5),
         ("pattern 1\nin a\ne a a\nout a\nend\n", 15, 3, 5),

@@ -1,5 +1,5 @@
 use Rattle.std.proofs.Common.{Some, ap, ◌∙◌}
-use Rattle.mc_pattern_text.proofs.Marked.{second_name_same, second_name_clean}
+use Rattle.mc_pattern_text.proofs.Marked.{second_name_same}
 use Rattle.mc_pattern_text.proofs.operands.take_second.Goals as goal
 
 pub returns-then-number-first-clause-err : goal.returns-then-number-first-clause-err

@@ -13,7 +13,7 @@ from_parts-requires g c =
       (
         omega arith,
         reads_pattern c.read_section.new.section (section_lines left.later) c.in_default.ensures.read
-        c.len-count.ensures.names ends,
+            c.len-count.ensures.names ends,
       ),
     )
 

@@ -1,4 +1,3 @@
-use Rattle.std.proofs.Common.{◌∙◌}
 use Rattle.mc_pattern_text.proofs.Marked.{place-last}
 use Rattle.mc_pattern_text.proofs.steps.take_prepared.Goals as goal
 
