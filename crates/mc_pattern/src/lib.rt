@@ -9,7 +9,6 @@ mod command;
 mod fitting;
 mod laws;
 mod outputs;
-mod parts;
 mod pattern;
 mod rules;
 #[cfg(test)]
