@@ -1,15 +1,13 @@
 -- Nothing is against the lines of a circuit's canonical text.
-use Rattle.std.proofs.Common.{◌≡◌, ℕ, zero, suc, ◌+◌, ◌*◌, ◌<◌, ◌≤◌, List, [], ◌∷◌, ◌++◌, All, Bool, true, false, not, ◌&&◌, Option, Some, None, length, map, take, drop, codes, refl, sym, subst, ap, ◌∙◌, append_assoc, length-append, arith, ne_eqb, nat_eq, nat_le, cond, count_by, slice_index_or, IsTrue, if◌then◌else◌}
-use Rattle.std.specs.Fmt.{decimal}
+use Rattle.std.proofs.Common.{◌≡◌, ℕ, suc, ◌+◌, ◌<◌, ◌≤◌, List, [], ◌∷◌, ◌++◌, All, Bool, true, false, ◌&&◌, Option, Some, None, length, map, codes, refl, sym, ◌∙◌, append_assoc, length-append, arith, ne_eqb, nat_eq, nat_le, cond, count_by, IsTrue, if◌then◌else◌}
 use Rattle.std.specs.List.{flat_map, filter_map, list_all, list_any, IsDistinct}
 use Rattle.std.proofs.lemmas.Bool.{eq-eqb}
 use Rattle.std.proofs.lemmas.Bool.Decides.{nat_tests}
 use Rattle.std.proofs.lemmas.List.{append-nil, map-append, get_or_append_left}
 use Rattle.std.proofs.Math.Seq.{get_or-append_seam}
 use Rattle.std.proofs.lemmas.List.Elements.{filter_map-append}
-use Rattle.std.proofs.lemmas.List.Sums.{sum_by-append, sum_by-cons, list_all-from_AllPass}
-use Rattle.mc_model.specs.Names.{Name, AreNames, name_eq, is_name, is_held, place_of}
-use Rattle.mc_model.specs.Numbers.{ListsOnce}
+use Rattle.std.proofs.lemmas.List.Sums.{sum_by-append, sum_by-cons}
+use Rattle.mc_model.specs.Names.{Name, AreNames, name_eq, is_name, is_held}
 use Rattle.mc_model.specs.Pattern.{Circuit, Gate, CZ}
 use Rattle.mc_model.specs.Pattern as plain
 use Rattle.mc_model.specs.Steps.{is_permitted}
@@ -17,23 +15,22 @@ use Rattle.mc_model.specs.Valid.{GatesFit}
 use Rattle.mc_angle.proofs.Numerals.{angle-decimal}
 use Rattle.mc_write.specs.Named.{name_at}
 use Rattle.mc_text.specs.declared.head.Head.{Head}
-use Rattle.mc_text.specs.declared.head.Head.TheVariants.{In, Plus, J, Cz, Out, End}
+use Rattle.mc_text.specs.declared.head.Head.TheVariants.{In, Plus, J, Cz, Out}
 use Rattle.mc_text.specs.Heads.{head_of, head_in, is_end}
 use Rattle.mc_text.specs.Points.{point_of, last_head}
 use Rattle.mc_text.specs.Judged.{Words, Lines}
-use Rattle.mc_text.specs.Rules.{number_in}
 use Rattle.mc_text.specs.Lists.{names_in, names_at}
 use Rattle.mc_text.proofs.Going.{head_at}
 use Rattle.mc_text.proofs.Kept.{count_some, names_at-line}
 use Rattle.mc_text.proofs.Numbers.{listed-number}
 use Rattle.mc_text.proofs.Listed.{all_listed}
-use Rattle.mc_text.proofs.Clean.{CleanWords, Clean, last, more}
+use Rattle.mc_text.proofs.Clean.{CleanWords, Clean, more}
 use Rattle.mc_text.proofs.Naming.{place-name_at, held-name_at, is_name-name_at, numbers-name_at, any-count, distinct_front, names_apart}
-use Rattle.mc_circuit.specs.Circuits.{IsCircuit, AnglesFit}
-use Rattle.mc_circuit.specs.Roles.{role_in, role_of, defined, may_follow, is_defining, is_gate, is_output}
+use Rattle.mc_circuit.specs.Circuits.{AnglesFit}
+use Rattle.mc_circuit.specs.Roles.{role_in, role_of, defined, may_follow, is_defining, is_output}
 use Rattle.mc_circuit.specs.Value.{spelled_gate, spelled_gates}
 use Rattle.mc_circuit.specs.Judge.{circuit_rules}
-use Rattle.mc_circuit.specs.Canonical.{gate_line, plus_lines, circuit_lines}
+use Rattle.mc_circuit.specs.Canonical.{gate_line}
 use Rattle.mc_circuit.proofs.KeepingLine.{last_head-more}
 
 -- the role of a word behind a record word, and the names of its line

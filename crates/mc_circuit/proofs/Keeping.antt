@@ -1,37 +1,27 @@
 -- How what is kept goes on with a word and with a line.
-use Rattle.std.proofs.Common.{◌≡◌, ℕ, ◌+◌, ◌<◌, ◌≤◌, List, [], ◌∷◌, ◌++◌, Bool, true, false, not, ◌&&◌, Option, Some, None, length, map, refl, sym, subst, ap, ◌∙◌, append_assoc, length-append, arith, ◌==◌, ne_eqb, nat_le, nat_eq, if◌then◌else◌, ◌⊎◌, inl, inr}
-use Rattle.std.specs.List.{filter_map, list_all, list_any, IsDistinct}
-use Rattle.std.specs.Option.{option_map, option_to_list}
+use Rattle.std.proofs.Common.{◌≡◌, ℕ, List, [], ◌∷◌, ◌++◌, Bool, true, false, Option, Some, None, length, refl, sym, ap, arith, ◌==◌, ne_eqb, if◌then◌else◌, ◌⊎◌, inl, inr}
+use Rattle.std.specs.List.{IsDistinct}
+use Rattle.std.specs.Option.{option_map}
 use Rattle.std.specs.Cmp.Lexicographic.{nat_list_eq_equiv}
-use Rattle.std.proofs.lemmas.Bool.Decides.{nat_tests}
-use Rattle.std.proofs.lemmas.List.{append-nil, map-append, length-map}
-use Rattle.std.proofs.lemmas.List.Elements.{filter_map-append}
-use Rattle.std.proofs.lemmas.List.Sums.{fold-append}
+use Rattle.std.proofs.lemmas.List.{append-nil, length-map}
 use Rattle.std.proofs.lemmas.Map.Keys.{IsDistinct-push}
-use Rattle.mc_model.specs.Names.{name_eq, is_name, is_held, place_of}
-use Rattle.mc_model.specs.Pattern as plain
-use Rattle.mc_model.specs.Valid.{GatesFit}
+use Rattle.mc_model.specs.Names.{name_eq, is_name, is_held}
 use Rattle.mc_angle.specs.Angle.{angle_of}
 use Rattle.mc_text.specs.declared.head.Head.{Head}
-use Rattle.mc_text.specs.declared.head.Head.TheVariants.{In, Plus, J, Cz, Out, End}
+use Rattle.mc_text.specs.declared.head.Head.TheVariants.{J, Cz, Out, End}
 use Rattle.mc_text.specs.declared.point.Point.{Point}
-use Rattle.mc_text.specs.Heads.{head_of, head_in}
-use Rattle.mc_text.specs.Points.{point_of, last_head}
+use Rattle.mc_text.specs.Heads.{head_of}
+use Rattle.mc_text.specs.Points.{point_of}
 use Rattle.mc_text.specs.Judged.{Words, Lines}
 use Rattle.mc_text.specs.Rules.{number_in, AreNumbers, listed_name}
 use Rattle.mc_text.specs.Lists.{names_at, added, operand_at}
 use Rattle.mc_text.proofs.Going.{head_at}
-use Rattle.mc_text.proofs.Kept.{count_at, names_at-word, names_at-line, added_none, place-more, number_in-more, numbers-word, numbers-more, operand_at-word}
-use Rattle.mc_circuit.specs.declared.gate.Gate.{Gate}
+use Rattle.mc_text.proofs.Kept.{count_at, numbers-word}
 use Rattle.mc_circuit.specs.declared.reader.Reader.{Reader}
-use Rattle.mc_circuit.specs.Gates.{plain_gate}
-use Rattle.mc_circuit.specs.Circuits.{AnglesFit}
-use Rattle.mc_circuit.specs.Roles.{may_follow, role_of, is_defining, is_input, is_gate, is_output}
+use Rattle.mc_circuit.specs.Roles.{may_follow, role_of, is_gate, is_output}
 use Rattle.mc_circuit.specs.Value.{spelled_by, spelled_gate, spelled_gates, gate_by}
 use Rattle.mc_circuit.specs.Judge.{judge_by, lacks_by, circuit_rules}
-use Rattle.mc_circuit.specs.Kept.{IsKept, AreGates, Stands, Lists, Moves, Ends, IsOperand, opens, is_closed, gate_with, next_gate}
-use Rattle.mc_circuit.proofs.Building.{GatesFit-append, AnglesFit-append}
-use Rattle.mc_circuit.proofs.Moving.{to_list_some}
+use Rattle.mc_circuit.specs.Kept.{IsKept, Stands, Lists, is_closed, gate_with, next_gate}
 
 -- tests of record words
 out_head : (h : Option Head) → is_output h ≡ true → h ≡ Some Out

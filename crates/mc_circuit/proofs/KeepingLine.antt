@@ -1,8 +1,7 @@
 -- The end of a line with nothing against it is kept.
-use Rattle.std.proofs.Common.{◌≡◌, ℕ, ◌+◌, ◌<◌, ◌≤◌, List, [], ◌∷◌, ◌++◌, Bool, true, false, Option, Some, None, length, map, refl, sym, subst, ap, ◌∙◌, length-append, arith, ne_eqb, ◌⊎◌, inl, inr}
+use Rattle.std.proofs.Common.{◌≡◌, ℕ, ◌<◌, ◌≤◌, List, [], ◌∷◌, ◌++◌, Bool, true, false, Option, Some, None, length, map, refl, sym, ap, ◌∙◌, length-append, arith, ne_eqb, inl, inr}
 use Rattle.std.specs.List.{filter_map, list_all}
 use Rattle.std.specs.Option.{option_map, option_to_list}
-use Rattle.std.proofs.lemmas.Bool.{true≢false}
 use Rattle.std.proofs.lemmas.List.{append-nil, map-append}
 use Rattle.std.proofs.lemmas.List.Elements.{filter_map-append}
 use Rattle.std.proofs.lemmas.List.Sums.{fold-append}
@@ -23,9 +22,9 @@ use Rattle.mc_circuit.specs.Gates.{plain_gate}
 use Rattle.mc_circuit.specs.Roles.{may_follow, role_of, output, is_defining, is_input, is_gate, is_output}
 use Rattle.mc_circuit.specs.Value.{Spelled, spelled_by, spelled_gate, spelled_gates, gate_by}
 use Rattle.mc_circuit.specs.Judge.{lacks_by}
-use Rattle.mc_circuit.specs.Kept.{IsKept, AreGates, Ends, opens, is_closed}
+use Rattle.mc_circuit.specs.Kept.{IsKept, Ends, is_closed}
 use Rattle.mc_circuit.proofs.Building.{GatesFit-append, AnglesFit-append}
-use Rattle.mc_circuit.proofs.Keeping.{closed_head, behind_closed}
+use Rattle.mc_circuit.proofs.Keeping.{closed_head}
 
 pub last_head-more : (before : Lines) (here : Words)
     → last_head (before ++ here ∷ []) ≡ head_in here

@@ -1,5 +1,5 @@
 -- A word with nothing against it is kept.
-use Rattle.std.proofs.Common.{◌≡◌, ℕ, ◌+◌, ◌<◌, ◌≤◌, List, [], ◌∷◌, ◌++◌, Bool, true, false, not, ◌&&◌, Option, Some, None, length, map, refl, sym, subst, ap, ◌∙◌, append_assoc, length-append, arith, ◌==◌, ne_eqb, nat_le, if◌then◌else◌}
+use Rattle.std.proofs.Common.{◌≡◌, ℕ, ◌<◌, ◌≤◌, List, [], ◌∷◌, ◌++◌, Bool, true, false, Option, Some, None, length, refl, sym, ◌∙◌, append_assoc, length-append, arith, ◌==◌, nat_le}
 use Rattle.std.specs.List.{list_all}
 use Rattle.std.proofs.lemmas.Bool.{eq-eqb, eqb-true, true≢false}
 use Rattle.std.proofs.lemmas.Bool.Decides.{nat_tests}
@@ -9,7 +9,7 @@ use Rattle.mc_model.specs.Pattern as plain
 use Rattle.mc_model.specs.Pattern.{J, CZ}
 use Rattle.mc_model.specs.Valid.{GatesFit}
 use Rattle.mc_text.specs.declared.head.Head.{Head}
-use Rattle.mc_text.specs.declared.head.Head.TheVariants.{Out, End}
+use Rattle.mc_text.specs.declared.head.Head.TheVariants.{End}
 use Rattle.mc_text.specs.declared.point.Point.{Point}
 use Rattle.mc_text.specs.Heads.{head_of, head_in}
 use Rattle.mc_text.specs.Points.{point_of, last_head}
@@ -17,13 +17,11 @@ use Rattle.mc_text.specs.Judged.{Words, Lines}
 use Rattle.mc_text.specs.Rules.{number_in, AreNumbers}
 use Rattle.mc_text.specs.Lists.{names_at, added, operand_at, next_operand}
 use Rattle.mc_text.proofs.Going.{head_at}
-use Rattle.mc_text.proofs.Kept.{count_some, names_at-word, added_none, place-more, number_in-more, numbers-more, operand_at-word}
+use Rattle.mc_text.proofs.Kept.{names_at-word, added_none, place-more, number_in-more, numbers-more, operand_at-word}
 use Rattle.mc_circuit.specs.declared.reader.Reader.{Reader}
-use Rattle.mc_circuit.specs.Gates.{plain_gate}
 use Rattle.mc_circuit.specs.Roles.{may_follow, role_of, record_word, is_defining, is_input, is_gate, is_output}
-use Rattle.mc_circuit.specs.Value.{spelled_gate, spelled_gates, gate_by}
 use Rattle.mc_circuit.specs.Judge.{judge_by}
-use Rattle.mc_circuit.specs.Kept.{IsKept, AreGates, Moves, opens, is_closed}
+use Rattle.mc_circuit.specs.Kept.{IsKept, Moves, opens, is_closed}
 use Rattle.mc_circuit.proofs.Keeping.{stands_at, gate_more, outputs_more, distinct_more, behind_closed}
 
 -- gates fit on more wires

@@ -1,5 +1,5 @@
 -- What a second operand does.
-use Rattle.std.proofs.Common.{◌≡◌, ℕ, ◌+◌, ◌<◌, List, [], ◌∷◌, ◌++◌, true, Option, Some, None, length, map, refl, sym, ◌∙◌, arith}
+use Rattle.std.proofs.Common.{◌≡◌, ℕ, ◌<◌, List, [], ◌∷◌, Option, Some, None, length, map, refl, sym, ◌∙◌, arith}
 use Rattle.std.specs.Option.{option_map, option_to_list}
 use Rattle.std.proofs.lemmas.List.{append-nil}
 use Rattle.std.proofs.lemmas.List.Quantifiers.{position-Some}
@@ -11,7 +11,7 @@ use Rattle.mc_text.proofs.Kept.{number_in-more}
 use Rattle.mc_circuit.specs.declared.gate.Gate.{Gate}
 use Rattle.mc_circuit.specs.declared.reader.Reader.{Reader}
 use Rattle.mc_circuit.specs.Gates.{plain_gate}
-use Rattle.mc_circuit.specs.Kept.{Moves, Stands, IsOperand, TakesSecond, AreGates}
+use Rattle.mc_circuit.specs.Kept.{Moves, IsOperand, TakesSecond, AreGates}
 
 pub place-below : (names : List (List ℕ)) (a : List ℕ) (q : ℕ) → place_of names a ≡ Some q
     → q < length names

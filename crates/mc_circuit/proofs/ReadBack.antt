@@ -1,35 +1,32 @@
 -- The canonical text of a circuit is read without a fault, as that circuit.
-use Rattle.std.proofs.Common.{◌≡◌, ℕ, zero, suc, ◌+◌, ◌*◌, ◌<◌, ◌≤◌, List, [], ◌∷◌, ◌++◌, All, Bool, true, false, not, ◌&&◌, Option, Some, None, length, map, take, drop, codes, refl, sym, subst, ap, ◌∙◌, append_assoc, length-append, arith, count_by, nat_eq, IsTrue, if◌then◌else◌}
+use Rattle.std.proofs.Common.{◌≡◌, ℕ, suc, ◌<◌, List, [], ◌∷◌, ◌++◌, All, Bool, true, false, ◌&&◌, Option, Some, None, length, map, take, drop, codes, refl, sym, ap, ◌∙◌, length-append, arith, IsTrue}
 use Rattle.std.specs.Fmt.{decimal}
 use Rattle.std.specs.List.{flat_map, filter_map, list_all, IsDistinct, AllByRecursion}
 use Rattle.std.proofs.lemmas.Grind.{flat_map-append}
-use Rattle.std.proofs.lemmas.List.{append-nil, map-append, take-append-drop, length-take-le}
+use Rattle.std.proofs.lemmas.List.{append-nil, take-append-drop, length-take-le}
 use Rattle.std.proofs.lemmas.List.Elements.{filter_map-append}
 use Rattle.std.proofs.lemmas.List.Folds.{list_all-append}
 use Rattle.std.proofs.lemmas.List.Sums.{list_all-from_AllPass}
 use Rattle.std.proofs.lemmas.Bool.{eqb-true}
 use Rattle.mc_model.specs.Names.{Name, AreNames, name_eq, is_name}
-use Rattle.mc_model.specs.Numbers.{ListsOnce}
 use Rattle.mc_model.specs.Pattern.{Circuit, Gate, CZ}
 use Rattle.mc_model.specs.Pattern as plain
 use Rattle.mc_model.specs.Steps.{is_permitted}
 use Rattle.mc_model.specs.Valid.{GatesFit}
-use Rattle.mc_angle.specs.Angle.{angle_of}
 use Rattle.mc_angle.proofs.Numerals.{angle-decimal, number-decimal}
-use Rattle.mc_lex.specs.Lines.{lines_of, end_of}
+use Rattle.mc_lex.specs.Lines.{end_of}
 use Rattle.mc_write.specs.Named.{name_at}
 use Rattle.mc_text.specs.declared.head.Head.{Head}
-use Rattle.mc_text.specs.declared.head.Head.TheVariants.{In, Plus, J, Cz, Out, End}
-use Rattle.mc_text.specs.Heads.{head_of, head_in}
+use Rattle.mc_text.specs.declared.head.Head.TheVariants.{Plus, J, Cz}
+use Rattle.mc_text.specs.Heads.{head_of}
 use Rattle.mc_text.specs.Judged.{Words, Lines, section_lines}
-use Rattle.mc_text.specs.Rules.{number_in}
 use Rattle.mc_text.specs.Lists.{names_in, names_at}
 use Rattle.mc_text.proofs.Written.{is_written, is_written_line}
 use Rattle.mc_text.proofs.Clean.{CleanWords, Clean, last, more, IsRead, written_read}
 use Rattle.mc_text.proofs.Naming.{number-name_at, numbers-name_at, is_name-name_at, name_written, number_written}
 use Rattle.mc_circuit.specs.Circuits.{IsCircuit, AnglesFit}
 use Rattle.mc_circuit.specs.Roles.{is_defining, is_input, is_gate, is_output}
-use Rattle.mc_circuit.specs.Value.{Spelled, spelled_j, spelled_cz, spelled_by, spelled_gate, spelled_gates, gate_by, circuit_of}
+use Rattle.mc_circuit.specs.Value.{spelled_by, spelled_gate, spelled_gates, gate_by, circuit_of}
 use Rattle.mc_circuit.specs.Judge.{circuit_rules}
 use Rattle.mc_circuit.specs.Canonical.{gate_line, plus_lines, circuit_lines, circuit_text, behind_header}
 use Rattle.mc_circuit.proofs.KeepingLine.{last_head-more}

@@ -1,5 +1,5 @@
 -- What is kept at the end is the circuit that the lines spell, and it is valid.
-use Rattle.std.proofs.Common.{◌≡◌, ℕ, ◌≤◌, ◌<◌, List, [], ◌∷◌, ◌++◌, Option, Some, true, length, map, get_or, refl, sym, ◌∙◌}
+use Rattle.std.proofs.Common.{◌≡◌, ℕ, ◌≤◌, [], Some, true, length, map, get_or, refl}
 use Rattle.std.proofs.lemmas.List.{append-nil, length-map}
 use Rattle.std.proofs.lemmas.List.Sums.{AllPass-from_list_all}
 use Rattle.mc_model.specs.Names.{Name, AreNames, is_held}
@@ -14,7 +14,7 @@ use Rattle.mc_text.proofs.Listed.{ListsOnce-listed}
 use Rattle.mc_circuit.specs.declared.reader.Reader.{Reader}
 use Rattle.mc_circuit.specs.Gates.{plain_gate}
 use Rattle.mc_circuit.specs.Circuits.{IsCircuit}
-use Rattle.mc_circuit.specs.Roles.{is_defining, is_output}
+use Rattle.mc_circuit.specs.Roles.{is_output}
 use Rattle.mc_circuit.specs.Value.{circuit_of}
 use Rattle.mc_circuit.specs.Kept.{IsKept}
 

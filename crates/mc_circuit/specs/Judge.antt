@@ -6,7 +6,7 @@ use Rattle.mc_text.specs.declared.head.Head.{Head}
 use Rattle.mc_text.specs.declared.fault.Fault.TheVariants.{NotFixed, LineEnds, Surplus, SameOperand, OutputsLack}
 use Rattle.mc_text.specs.Heads.{head_of}
 use Rattle.mc_text.specs.Points.{point_of}
-use Rattle.mc_text.specs.Judged.{Judgement, Words, Lines, Rules}
+use Rattle.mc_text.specs.Judged.{Judgement, Rules}
 use Rattle.mc_text.specs.Rules.{broken, passed, or_next, new_name, known_name, listed_name, angle_word}
 use Rattle.mc_text.specs.Lists.{names_at, operand_at}
 use Rattle.mc_circuit.specs.Roles.{Role, record_word, defined, operand, angle, second, output, surplus, may_follow, role_of, is_defining, is_gate, is_output}

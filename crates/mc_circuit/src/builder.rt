@@ -103,7 +103,8 @@ impl<const H: usize> CircuitBuilder<H> {
         ensures number { IfOk result (λ q. q ≡ length self.old.names) }
         ensures added { OnOk result (self.new ≡ record self.old { names = self.old.names ++ name ∷ [] }) }
         ensures twice { (q : ℕ) → (result ≡ Err (CircuitEnd.Twice q)) ↔ (place_of self.old.names name ≡ Some q) }
-        ensures full { (result ≡ Err CircuitEnd.Full) ↔ ((place_of self.old.names name ≡ None) × (length self.old.names ≡ 256)) }
+        ensures full { (result ≡ Err CircuitEnd.Full) ↔
+            ((place_of self.old.names name ≡ None) × (length self.old.names ≡ 256)) }
         ensures room { OnOk result ((place_of self.old.names name ≡ None) × (length self.old.names < 256)) }
         ensures no_other { (n : ℕ) → result ≡ Err (CircuitEnd.Rule n) → ⊥ }
         ensures no_limit { result ≡ Err CircuitEnd.Limit → ⊥ }
@@ -125,8 +126,11 @@ impl<const H: usize> CircuitBuilder<H> {
         ensures ok { OnOk result (self.new ≡ record self.old { gates = self.old.gates ++ plain_gate gate.entry ∷ [] }) }
         ensures unbroken { OnOk result (broken_rule (length self.old.names) (plain_gate gate.entry) ≡ None) }
         ensures room { OnOk result (length self.old.gates < 32_768) }
-        ensures rule { (n : ℕ) → (result ≡ Err (CircuitEnd.Rule n)) ↔ (broken_rule (length self.old.names) (plain_gate gate.entry) ≡ Some n) }
-        ensures limit { (result ≡ Err CircuitEnd.Limit) ↔ ((broken_rule (length self.old.names) (plain_gate gate.entry) ≡ None) × (length self.old.gates ≡ 32_768)) }
+        ensures rule { (n : ℕ) → (result ≡ Err (CircuitEnd.Rule n)) ↔
+            (broken_rule (length self.old.names) (plain_gate gate.entry) ≡ Some n) }
+        ensures limit { (result ≡ Err CircuitEnd.Limit) ↔
+            ((broken_rule (length self.old.names) (plain_gate gate.entry) ≡ None)
+            × (length self.old.gates ≡ 32_768)) }
         ensures no_twice { (q : ℕ) → result ≡ Err (CircuitEnd.Twice q) → ⊥ }
         ensures no_full { result ≡ Err CircuitEnd.Full → ⊥ }
         ensures err { OnErr result (self.new ≡ self.old) }
@@ -152,8 +156,10 @@ impl<const H: usize> CircuitBuilder<H> {
     ) -> Result<Circuit<H>, (CircuitBuilder<H>, CircuitEnd)>
         ensures circuit { IfOk result (λ circuit. circuit ≡ record self.entry { outputs = out.now }) }
         ensures lists { OnOk result (ListsOnce (length self.entry.names) (λ v. true) out.now) }
-        ensures rule { IfErr result (λ refused. (refused.1 ≡ CircuitEnd.Rule 3) ↔ ¬ (ListsOnce (length self.entry.names) (λ v. true) out.now)) }
-        ensures memory_last { IfErr result (λ refused. (refused.1 ≡ CircuitEnd.Memory) ↔ ListsOnce (length self.entry.names) (λ v. true) out.now) }
+        ensures rule { IfErr result (λ refused. (refused.1 ≡ CircuitEnd.Rule 3) ↔
+            ¬ (ListsOnce (length self.entry.names) (λ v. true) out.now)) }
+        ensures memory_last { IfErr result (λ refused. (refused.1 ≡ CircuitEnd.Memory) ↔
+            ListsOnce (length self.entry.names) (λ v. true) out.now) }
         ensures kept { IfErr result (λ refused. refused.0 ≡ self.entry) }
     {
         if !lists_each(self.names.len(), out) {

@@ -66,7 +66,8 @@ fn print_j<const H: usize>(
 fn print_cz(text: &mut Vec<u8>, names: &Names, a: u16, b: u16) -> Result<(), Memory>
     requires first { a < length names.now }
     requires second { b < length names.now }
-    ensures { OnOk result (text.new.items ≡ text.old.items ++ line_text (codes "cz" ∷ name_at names.now a ∷ name_at names.now b ∷ [])) }
+    ensures { OnOk result (text.new.items ≡
+        text.old.items ++ line_text (codes "cz" ∷ name_at names.now a ∷ name_at names.now b ∷ [])) }
 {
     start_line(text, b"cz")?;
     add_name(text, names, a)?;
@@ -94,7 +95,8 @@ fn print_gates<const H: usize>(
     gates: &[Gate<H>],
 ) -> Result<(), Memory>
     requires { GatesFit (length names.now) (map plain_gate gates.now) }
-    ensures { OnOk result (text.new.items ≡ text.old.items ++ text_of (map (gate_line names.now) (map plain_gate gates.now))) }
+    ensures { OnOk result (text.new.items ≡
+        text.old.items ++ text_of (map (gate_line names.now) (map plain_gate gates.now))) }
 {
     'gates: for gate in gates {
         print_gate(text, names, gate)?;
@@ -104,7 +106,8 @@ fn print_gates<const H: usize>(
 
 fn print_outputs(text: &mut Vec<u8>, names: &Names, out: &[u16]) -> Result<(), Memory>
     requires { All (λ q. q < length names.now) out.now }
-    ensures { OnOk result (text.new.items ≡ text.old.items ++ line_text (codes "out" ∷ map (name_at names.now) out.now)) }
+    ensures { OnOk result (text.new.items ≡
+        text.old.items ++ line_text (codes "out" ∷ map (name_at names.now) out.now)) }
 {
     start_line(text, b"out")?;
     add_names(text, names, out)?;

@@ -196,7 +196,8 @@ fn has_each(numbers: &[u16], count: u16) -> bool
 
 /// Whether each of the names is listed.
 fn lists_each(names: &Names, numbers: &[u16]) -> bool
-    ensures { (listed : List (List ℕ)) → AreNumbers names.now listed numbers.now → result ≡ list_all (is_held listed) names.now }
+    ensures { (listed : List (List ℕ)) → AreNumbers names.now listed numbers.now
+        → result ≡ list_all (is_held listed) names.now }
 {
     has_each(numbers, names.len())
 }
@@ -227,7 +228,8 @@ fn end_words(names: &Names, outputs: &[u16], point: Point) -> Result<(), Stop>
 /// Judges the end of a line and takes its gate.
 pub(crate) fn end_gate<const H: usize>(kept: &mut Reader<H>, point: Point) -> Result<(), Stop>
     ensures ok { OnOk result (Ends kept.old kept.new point) }
-    ensures err { IfErr result (λ stop. (listed : List (List ℕ)) → AreNumbers kept.old.names listed kept.old.outputs.items
+    ensures err { IfErr result (λ stop. (listed : List (List ℕ))
+        → AreNumbers kept.old.names listed kept.old.outputs.items
         → IsStop stop (lacks_by kept.old.names listed (role_of point))) }
 {
     if let Err(stop) = end_words(&kept.names, kept.outputs.as_slice(), point) {

@@ -18,7 +18,8 @@ fn are_below(numbers: &[u16], bound: usize) -> bool
 
 fn are_there_as_due(numbers: &[u16], due: &[bool]) -> bool
     requires { length due.now ≤ 65_536 }
-    ensures { IsTrue result ↔ ((q : ℕ) → q < length due.now → count_by (nat_eq q) numbers.now ≡ cond (slice_index_or due.now q false) 1 0) }
+    ensures { IsTrue result ↔ ((q : ℕ) → q < length due.now
+        → count_by (nat_eq q) numbers.now ≡ cond (slice_index_or due.now q false) 1 0) }
 {
     'numbers: for q in 0..due.len() {
         if count(numbers, q as u16) != due[q] as usize {

@@ -13,6 +13,7 @@ mod pattern;
 mod rules;
 #[cfg(test)]
 mod tests;
+mod whole;
 
 pub use builder::{Builder, PushEnd};
 pub use change::Change;

@@ -14,40 +14,9 @@ use Rattle.mc_model.proofs.BitLemmas.{xor_false, xor_assoc, xor_twice}
 use Rattle.mc_model.proofs.SignalLemmas.{value-sum, same_values, toggled_all_rising, reset}
 use Rattle.mc_model.proofs.ValidLemmas.{none_measured, next_measured, moved_on}
 use Rattle.mc_shift.specs.Laws.{IsBijection, HasOne}
+use Rattle.mc_shift.specs.Shifted.{expanded, shifted_signal, shifted, none_yet, shifted_form}
 use Rattle.mc_shift.proofs.Changed.{ChangedBy, changed_by}
 use Rattle.mc_shift.proofs.NewOutcomes.{new_outcomes_bijection}
-
--- each member replaced by itself and its signal
-unfoldable pub expanded : Signals → List ℕ → Signal
-expanded d [] = no_signal
-expanded d (q ∷ qs) = signal_sum (signal_sum (signal_of q) (d q)) (expanded d qs)
-
-abbrev pub shifted_signal : Signals → Signal → Signal
-shifted_signal d s = record {
-  members = (expanded d s.members).members;
-  constant = s.constant ⊻ (expanded d s.members).constant;
-}
-
--- `d` holds the shifted second signal of each qubit that was measured
-unfoldable pub shifted : Signals → List Command → List Command
-shifted d [] = []
-shifted d (Prep q ∷ cs) = Prep q ∷ shifted d cs
-shifted d (Ent q r ∷ cs) = Ent q r ∷ shifted d cs
-shifted d (FixX q s ∷ cs) = FixX q (shifted_signal d s) ∷ shifted d cs
-shifted d (FixZ q s ∷ cs) = FixZ q (shifted_signal d s) ∷ shifted d cs
-shifted d (Meas i a s t ∷ cs) =
-    Meas i a (shifted_signal d s) no_signal ∷ shifted (reset d i (shifted_signal d t)) cs
-
-abbrev pub none_yet : Signals
-none_yet = λ k. no_signal
-
-unfoldable pub shifted_form : Pattern → Pattern
-shifted_form p = record {
-  names = p.names;
-  inputs = p.inputs;
-  outputs = p.outputs;
-  commands = shifted none_yet p.commands;
-}
 
 -- each member of a signal was measured before
 abbrev pub SignalsDone : Bits → List Command → Type 0

@@ -15,7 +15,8 @@ use Rattle.mc_model.proofs.BitLemmas.{replaced_same, replaced_other}
 use Rattle.mc_model.proofs.SignalLemmas.{reset}
 use Rattle.mc_model.proofs.ValidLemmas.{measured-append, prepared-append, next_measured, none_measured, moved_on, valid_with, nothing_valid, done_sum, live_same}
 use Rattle.mc_shift.specs.Laws.{IsValidShiftedForm}
-use Rattle.mc_shift.proofs.ShiftedForm.{expanded, shifted_signal, shifted, none_yet, shifted_form, expanded_rising, form_exists, form_unique}
+use Rattle.mc_shift.specs.Shifted.{expanded, shifted_signal, shifted, none_yet, shifted_form}
+use Rattle.mc_shift.proofs.ShiftedForm.{expanded_rising, form_exists, form_unique}
 
 -- ---- the members of shifted signals were measured before
 

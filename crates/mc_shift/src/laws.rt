@@ -1,5 +1,9 @@
 //! What is proved of shifted forms.
 
+ghost use Rattle.mc_model.specs.Pattern.{Pattern};
+ghost use Rattle.mc_model.specs.Valid.{IsValidPattern};
+ghost use Rattle.mc_model.specs.Shift.{IsShiftedForm};
+ghost use Rattle.mc_shift.specs.Shifted.{shifted_form};
 ghost use Rattle.mc_shift.specs.Laws.{HasOneShiftedForm, NewOutcomesAreABijection, ShiftKeepsMaps, ShiftedFormsAreValid};
 
 /// At the changed outcomes the shifted form of a valid pattern has the branch map of the pattern.
@@ -7,9 +11,10 @@ pub fn shift_keeps_maps()
     ensures { ShiftKeepsMaps }
 {}
 
-/// A valid pattern has one shifted form.
+/// A valid pattern has one shifted form, which comes of putting signals in for qubits.
 pub fn has_one_shifted_form()
-    ensures { HasOneShiftedForm }
+    ensures one { HasOneShiftedForm }
+    ensures made { (p : Pattern) → IsValidPattern p → IsShiftedForm p (shifted_form p) }
 {}
 
 /// The change of outcomes of a valid pattern reaches all outcomes, each from one.

@@ -20,3 +20,9 @@ pub mod Settles
 pub mod StandardAlike
 pub mod UsesLeft
 pub mod WrongPairs
+pub mod InParts
+pub mod CodeParts
+pub mod CutParts
+pub mod StandardSize
+pub mod StandardTyped
+pub mod StandardPatterns

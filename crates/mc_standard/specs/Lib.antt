@@ -1,2 +1,5 @@
+pub mod Cut
 pub mod Improves
 pub mod Laws
+pub mod Parts
+pub mod Plain

@@ -1,7 +1,7 @@
 -- Lines of words without a fault, and the text that they are written as.
-use Rattle.std.proofs.Common.{◌≡◌, ℕ, ◌+◌, List, [], ◌∷◌, ◌++◌, Bool, true, false, ◌&&◌, Option, None, Some, length, drop, refl, sym, ◌∙◌}
+use Rattle.std.proofs.Common.{◌≡◌, ℕ, ◌+◌, List, [], ◌∷◌, ◌++◌, Bool, true, false, ◌&&◌, None, length, drop, refl}
 use Rattle.std.specs.List.{list_all}
-use Rattle.mc_lex.specs.Lines.{Item, word, Line, lines_of}
+use Rattle.mc_lex.specs.Lines.{Line, lines_of}
 use Rattle.mc_write.specs.Text.{text_of}
 use Rattle.mc_text.specs.Heads.{head_in, is_end}
 use Rattle.mc_text.specs.Judged.{Words, Lines, Place, Rules, words_of, first_in_line, first_in_section, section_lines, behind_section}

@@ -1,6 +1,6 @@
 -- Lists of distinct names, and the numbers of their names.
-use Rattle.std.proofs.Common.{◌≡◌, ℕ, zero, suc, ◌+◌, ◌<◌, List, [], ◌∷◌, All, Bool, true, false, ◌&&◌, ◌||◌, Option, Some, None, length, map, Decides, refl, sym, subst, ap, ◌∙◌, arith, nat_eq, nat_lt, get_or, cond, count_by, ◌⊎◌, inl, inr}
-use Rattle.std.specs.List.{IsDistinct, AllByRecursion, AllPairs, AllPass, list_any, list_all}
+use Rattle.std.proofs.Common.{◌≡◌, ℕ, zero, suc, ◌+◌, ◌<◌, List, [], ◌∷◌, All, Bool, true, false, ◌&&◌, ◌||◌, Some, length, map, Decides, refl, sym, subst, ap, ◌∙◌, arith, nat_eq, get_or, cond, count_by, inl, inr}
+use Rattle.std.specs.List.{IsDistinct, AllByRecursion, list_any, list_all}
 use Rattle.std.proofs.lemmas.Bool.{eq-eqb, ne_eqb, cases_order, true≢false}
 use Rattle.std.proofs.lemmas.Bool.Decides.{Decides-eqb}
 use Rattle.std.proofs.lemmas.List.Elements.{All-map}
@@ -10,7 +10,7 @@ use Rattle.std.proofs.lemmas.Map.Keys.{IsDistinct-head, IsDistinct-tail}
 use Rattle.std.proofs.lemmas.Map.Made.{AllPairs-from_IsDistinct}
 use Rattle.std.proofs.lemmas.Slice.Eq.{slice_eq-Decides}
 use Rattle.mc_model.specs.Numbers.{ListsOnce}
-use Rattle.mc_model.specs.Names.{Name, AreNames, name_eq, place_of, is_held}
+use Rattle.mc_model.specs.Names.{Name, name_eq, place_of, is_held}
 use Rattle.mc_names.specs.Stored.{name_eq-true}
 use Rattle.mc_text.specs.Rules.{number_in, AreNumbers}
 use Rattle.mc_text.proofs.Numbers.{place-held, place-same, listed-number}

@@ -1,4 +1,3 @@
-use Rattle.std.proofs.Common.{◌∙◌}
 use Rattle.mc_text.proofs.Listed.{all_listed, each_listed}
 use Rattle.mc_circuit.proofs.Operands.{same_truth}
 use Rattle.mc_circuit.proofs.steps.lists_each.Goals as goal

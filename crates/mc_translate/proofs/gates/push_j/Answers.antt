@@ -31,7 +31,7 @@ push_fitting-requires-2 g c =
     let p = c.args.builder.now in
     let size = c.names.ensures.valid.qubits in
     let fits =
-    meas_fits p.inputs c.args.q (length p.names) c.neg.result p.commands c.requires.qubit size
+    meas_fits p.inputs c.args.q (length p.names) 0 p.commands c.requires.qubit size
     c.requires.unborn in
     let room = room_three p.commands _ _ c.requires.commands in
     rw (
@@ -48,7 +48,7 @@ push_fitting-requires-3 g c =
     let p = c.args.builder.now in
     let size = c.names.ensures.valid.qubits in
     let fits =
-    fix_fits p.inputs c.args.q (length p.names) c.neg.result _ _ p.commands c.requires.qubit size
+    fix_fits p.inputs c.args.q (length p.names) _ _ _ p.commands c.requires.qubit size
     c.requires.unborn in
     let room = room_four p.commands _ _ _ c.requires.commands in
     rw (

@@ -1,0 +1,199 @@
+-- Lists of commands made of four parts, one after the other.
+use Rattle.std.proofs.Common.{◌≡◌, ℕ, List, [], ◌∷◌, ◌++◌, map, refl, sym, ◌∙◌, ap, ap₂, append-nil, arith}
+use Rattle.std.specs.Prelude.{nat_eq, ⊤}
+use Rattle.std.proofs.lemmas.Bool.{eq-eqb, ne_eqb}
+use Rattle.std.proofs.lemmas.List.Elements.{filter-append}
+use Rattle.mc_model.specs.Signals.{Signal}
+use Rattle.mc_model.specs.Pattern.{Command, Prep, Ent, Meas, FixX, FixZ}
+use Rattle.mc_model.specs.StandardForm.{preparations_of}
+use Rattle.mc_model.specs.Derivation.{part}
+use Rattle.mc_standard.specs.Parts.{part_of, entanglings_of, measurements_of, corrections_of, HasParts, IsInParts}
+
+-- each command of the list is of one part
+abbrev pub AllOf : ℕ → List Command → Type 0
+AllOf k [] = ⊤
+AllOf k (c ∷ cs) = (part c ≡ k) × AllOf k cs
+
+pub all_of_map : {A : Type 0} (k : ℕ) (f : A → Command) → ((x : A) → part (f x) ≡ k) →
+    (xs : List A) → AllOf k (map f xs)
+all_of_map k f same [] = tt
+all_of_map k f same (x ∷ xs) = (same x, all_of_map k f same xs)
+
+pub all_of_append : (k : ℕ) (cs ds : List Command) → AllOf k cs → AllOf k ds → AllOf k (cs ++ ds)
+all_of_append k [] ds h g = g
+all_of_append k (c ∷ cs) ds h g = (h.0, all_of_append k cs ds h.1 g)
+
+all_taken : (k : ℕ) (cs : List Command) → AllOf k cs → part_of k cs ≡ cs
+all_taken k [] h = refl
+all_taken k (c ∷ cs) h =
+    rw (eq-eqb (part c) k h.0) (ap (λ (rest : List Command). c ∷ rest) (all_taken k cs h.1))
+
+none_taken : (k j : ℕ) (cs : List Command) → AllOf j cs → (j ≡ k → ⊥) → part_of k cs ≡ []
+none_taken k j [] h apart = refl
+none_taken k j (c ∷ cs) h apart =
+    rw (ne_eqb (part c) k (λ e. apart (sym h.0 ∙ e))) (none_taken k j cs h.1 apart)
+
+pub preparations_part : (cs : List Command) → preparations_of cs ≡ part_of 0 cs
+unfolding preparations_of
+preparations_part [] = refl
+preparations_part (Prep q ∷ cs) =
+    ap (λ (rest : List Command). Prep q ∷ rest) (preparations_part cs)
+preparations_part (Ent q r ∷ cs) = preparations_part cs
+preparations_part (Meas q a s t ∷ cs) = preparations_part cs
+preparations_part (FixX q s ∷ cs) = preparations_part cs
+preparations_part (FixZ q s ∷ cs) = preparations_part cs
+
+four_taken : (k : ℕ) (ps es ms fs : List Command) →
+    part_of k (ps ++ (es ++ (ms ++ fs)))
+    ≡ part_of k ps ++ (part_of k es ++ (part_of k ms ++ part_of k fs))
+four_taken k ps es ms fs =
+    filter-append (λ c. nat_eq (part c) k) ps (es ++ (ms ++ fs))
+    ∙ ap (λ (xs : List Command). part_of k ps ++ xs)
+    (filter-append (λ c. nat_eq (part c) k) es (ms ++ fs)
+    ∙ ap (λ (xs : List Command). part_of k es ++ xs)
+    (filter-append (λ c. nat_eq (part c) k) ms fs))
+
+four_are : (ps es ms fs ps' es' ms' fs' : List Command) → ps ≡ ps' → es ≡ es' → ms ≡ ms' →
+    fs ≡ fs' → ps ++ (es ++ (ms ++ fs)) ≡ ps' ++ (es' ++ (ms' ++ fs'))
+four_are ps es ms fs ps' es' ms' fs' p e m f =
+    ap₂ (λ (xs ys : List Command). xs ++ ys) p
+    (ap₂ (λ (xs ys : List Command). xs ++ ys) e (ap₂ (λ (xs ys : List Command). xs ++ ys) m f))
+
+pub has_parts : (ps es ms fs : List Command) → AllOf 0 ps → AllOf 1 es → AllOf 2 ms → AllOf 3 fs →
+    HasParts ps es ms fs (ps ++ (es ++ (ms ++ fs)))
+has_parts ps es ms fs p e m f = record {
+  preparations =
+      preparations_part (ps ++ (es ++ (ms ++ fs)))
+      ∙ four_taken 0 ps es ms fs
+      ∙ four_are (part_of 0 ps) (part_of 0 es) (part_of 0 ms) (part_of 0 fs) ps [] [] []
+      (all_taken 0 ps p)
+      (none_taken 0 1 es e (λ g. absurd (omega arith)))
+      (none_taken 0 2 ms m (λ g. absurd (omega arith)))
+      (none_taken 0 3 fs f (λ g. absurd (omega arith)))
+      ∙ append-nil ps;
+  entanglings =
+      four_taken 1 ps es ms fs
+      ∙ four_are (part_of 1 ps) (part_of 1 es) (part_of 1 ms) (part_of 1 fs) [] es [] []
+      (none_taken 1 0 ps p (λ g. absurd (omega arith)))
+      (all_taken 1 es e)
+      (none_taken 1 2 ms m (λ g. absurd (omega arith)))
+      (none_taken 1 3 fs f (λ g. absurd (omega arith)))
+      ∙ append-nil es;
+  measurements =
+      four_taken 2 ps es ms fs
+      ∙ four_are (part_of 2 ps) (part_of 2 es) (part_of 2 ms) (part_of 2 fs) [] [] ms []
+      (none_taken 2 0 ps p (λ g. absurd (omega arith)))
+      (none_taken 2 1 es e (λ g. absurd (omega arith)))
+      (all_taken 2 ms m)
+      (none_taken 2 3 fs f (λ g. absurd (omega arith)))
+      ∙ append-nil ms;
+  corrections =
+      four_taken 3 ps es ms fs
+      ∙ four_are (part_of 3 ps) (part_of 3 es) (part_of 3 ms) (part_of 3 fs) [] [] [] fs
+      (none_taken 3 0 ps p (λ g. absurd (omega arith)))
+      (none_taken 3 1 es e (λ g. absurd (omega arith)))
+      (none_taken 3 2 ms m (λ g. absurd (omega arith)))
+      (all_taken 3 fs f);
+}
+
+pub in_parts_by : (ps es ms fs cs : List Command) → HasParts ps es ms fs cs →
+    cs ≡ ps ++ (es ++ (ms ++ fs)) → IsInParts cs
+in_parts_by ps es ms fs cs h e =
+    e
+    ∙ four_are ps es ms fs (preparations_of cs) (entanglings_of cs) (measurements_of cs)
+    (corrections_of cs) (sym h.preparations) (sym h.entanglings) (sym h.measurements)
+    (sym h.corrections)
+
+-- one more command
+part_more : (k : ℕ) (cs : List Command) (c : Command) →
+    part_of k (cs ++ (c ∷ [])) ≡ part_of k cs ++ part_of k (c ∷ [])
+part_more k cs c = filter-append (λ c. nat_eq (part c) k) cs (c ∷ [])
+
+part_stays : (k : ℕ) (cs : List Command) (c : Command) → part_of k (c ∷ []) ≡ [] →
+    part_of k (cs ++ (c ∷ [])) ≡ part_of k cs
+part_stays k cs c none =
+    part_more k cs c ∙ ap (λ (xs : List Command). part_of k cs ++ xs) none
+    ∙ append-nil (part_of k cs)
+
+part_grows : (k : ℕ) (cs : List Command) (c : Command) → part_of k (c ∷ []) ≡ c ∷ [] →
+    part_of k (cs ++ (c ∷ [])) ≡ part_of k cs ++ (c ∷ [])
+part_grows k cs c one = part_more k cs c ∙ ap (λ (xs : List Command). part_of k cs ++ xs) one
+
+preps_stay : (cs : List Command) (c : Command) → part_of 0 (c ∷ []) ≡ [] →
+    preparations_of (cs ++ (c ∷ [])) ≡ preparations_of cs
+preps_stay cs c none =
+    preparations_part (cs ++ (c ∷ [])) ∙ part_stays 0 cs c none ∙ sym (preparations_part cs)
+
+preps_grow : (cs : List Command) (c : Command) → part_of 0 (c ∷ []) ≡ c ∷ [] →
+    preparations_of (cs ++ (c ∷ [])) ≡ preparations_of cs ++ (c ∷ [])
+preps_grow cs c one =
+    preparations_part (cs ++ (c ∷ [])) ∙ part_grows 0 cs c one
+    ∙ ap (λ (xs : List Command). xs ++ (c ∷ [])) (sym (preparations_part cs))
+
+pub no_parts : HasParts [] [] [] [] []
+unfolding preparations_of
+no_parts = record {
+  preparations = refl;
+  entanglings = refl;
+  measurements = refl;
+  corrections = refl;
+}
+
+behind : (xs ys : List Command) (c : Command) → xs ≡ ys → xs ++ (c ∷ []) ≡ ys ++ (c ∷ [])
+behind xs ys c e = ap (λ (zs : List Command). zs ++ (c ∷ [])) e
+
+pub parts_with_prep : (ps es ms fs cs : List Command) (q : ℕ) → HasParts ps es ms fs cs →
+    HasParts (ps ++ (Prep q ∷ [])) es ms fs (cs ++ (Prep q ∷ []))
+parts_with_prep ps es ms fs cs q h =
+    let c : Command = Prep q in
+    record {
+      preparations = preps_grow cs c refl ∙ behind (preparations_of cs) ps c h.preparations;
+      entanglings = part_stays 1 cs c refl ∙ h.entanglings;
+      measurements = part_stays 2 cs c refl ∙ h.measurements;
+      corrections = part_stays 3 cs c refl ∙ h.corrections;
+    }
+
+pub parts_with_ent : (ps es ms fs cs : List Command) (q r : ℕ) → HasParts ps es ms fs cs →
+    HasParts ps (es ++ (Ent q r ∷ [])) ms fs (cs ++ (Ent q r ∷ []))
+parts_with_ent ps es ms fs cs q r h =
+    let c : Command = Ent q r in
+    record {
+      preparations = preps_stay cs c refl ∙ h.preparations;
+      entanglings = part_grows 1 cs c refl ∙ behind (entanglings_of cs) es c h.entanglings;
+      measurements = part_stays 2 cs c refl ∙ h.measurements;
+      corrections = part_stays 3 cs c refl ∙ h.corrections;
+    }
+
+pub parts_with_meas : (ps es ms fs cs : List Command) (q a : ℕ) (s t : Signal) →
+    HasParts ps es ms fs cs →
+    HasParts ps es (ms ++ (Meas q a s t ∷ [])) fs (cs ++ (Meas q a s t ∷ []))
+parts_with_meas ps es ms fs cs q a s t h =
+    let c : Command = Meas q a s t in
+    record {
+      preparations = preps_stay cs c refl ∙ h.preparations;
+      entanglings = part_stays 1 cs c refl ∙ h.entanglings;
+      measurements = part_grows 2 cs c refl ∙ behind (measurements_of cs) ms c h.measurements;
+      corrections = part_stays 3 cs c refl ∙ h.corrections;
+    }
+
+pub parts_with_x : (ps es ms fs cs : List Command) (q : ℕ) (s : Signal) →
+    HasParts ps es ms fs cs → HasParts ps es ms (fs ++ (FixX q s ∷ [])) (cs ++ (FixX q s ∷ []))
+parts_with_x ps es ms fs cs q s h =
+    let c : Command = FixX q s in
+    record {
+      preparations = preps_stay cs c refl ∙ h.preparations;
+      entanglings = part_stays 1 cs c refl ∙ h.entanglings;
+      measurements = part_stays 2 cs c refl ∙ h.measurements;
+      corrections = part_grows 3 cs c refl ∙ behind (corrections_of cs) fs c h.corrections;
+    }
+
+pub parts_with_z : (ps es ms fs cs : List Command) (q : ℕ) (s : Signal) →
+    HasParts ps es ms fs cs → HasParts ps es ms (fs ++ (FixZ q s ∷ [])) (cs ++ (FixZ q s ∷ []))
+parts_with_z ps es ms fs cs q s h =
+    let c : Command = FixZ q s in
+    record {
+      preparations = preps_stay cs c refl ∙ h.preparations;
+      entanglings = part_stays 1 cs c refl ∙ h.entanglings;
+      measurements = part_stays 2 cs c refl ∙ h.measurements;
+      corrections = part_grows 3 cs c refl ∙ behind (corrections_of cs) fs c h.corrections;
+    }
