@@ -55,7 +55,8 @@ or_false false false = refl
 
 member-last : (qs : List ℕ) (q r : ℕ) → is_member (qs ++ q ∷ []) r ≡ is_member qs r || nat_eq r q
 member-last [] q r = or_false false (nat_eq r q)
-member-last (p ∷ qs) q r = rw (member-last qs q r) (or_three (nat_eq r p) (is_member qs r) (nat_eq r q))
+member-last (p ∷ qs) q r =
+    rw (member-last qs q r) (or_three (nat_eq r p) (is_member qs r) (nat_eq r q))
   where
     or_three : (a b c : Bool) → (a || (b || c)) ≡ ((a || b) || c)
     or_three true b c = refl
@@ -71,7 +72,8 @@ marked-word names list marks marks' word q are place more =
     record {
       held = list_all-append (is_held names) list (word ∷ []) ∙ rw (are.held, held) refl;
       marked = λ r.
-          let all : is_member (map (number_in names) (list ++ word ∷ [])) r ≡ marks r || nat_eq r q =
+          let all : is_member (map (number_in names) (list ++ word ∷ [])) r
+          ≡ marks r || nat_eq r q =
           rw (longer, number, member-last (map (number_in names) list) q r, are.marked r) refl in
           more r ∙ sym all;
     }
@@ -85,7 +87,8 @@ joined names list added marks set set' word one are joins = elim one.is [
       rw (none, append-nil list, joins') are
   | inr some ↦
       let joins' = rw some at joins in
-      rw some (marked-word names list (is_member set) (is_member set') word joins'.0 are joins'.1 joins'.3)
+      rw some
+      (marked-word names list (is_member set) (is_member set') word joins'.0 are joins'.1 joins'.3)
 ]
 
 or_either : (a b : Bool) → (a || b) ≡ true → (a ≡ true) ⊎ (b ≡ true)

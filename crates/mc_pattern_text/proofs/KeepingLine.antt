@@ -120,8 +120,8 @@ measured_line k k' before h (a ∷ words) p true m e kept ends clean =
     let marks : bits_of k'.marks ≡ replaced (bits_of k.marks) k.operands.first true =
     rw head at ends.marks (omega arith) in
     rw (operands_at-some 0 is_measuring before (h ∷ a ∷ words) a (rw g refl))
-    (marked-word k.names (measured_in before) (bits_of k.marks) (bits_of k'.marks) a k.operands.first
-    kept.measured place
+    (marked-word k.names (measured_in before) (bits_of k.marks) (bits_of k'.marks) a
+    k.operands.first kept.measured place
     (λ r. ap (λ (f : Bits). f r) marks
     ∙ replaced_or (bits_of k.marks) k.operands.first r (nat_eq r k.operands.first) refl))
 measured_line k k' before h words p false m e kept ends clean =
@@ -159,11 +159,12 @@ complete_line k before h words p e kept clean closed = elim (closed_cases (head_
   | inl g ↦
       let none = ne_eqb (point_of before (h ∷ words)).count 0 (count_some before h words) in
       let head = head_at before (h ∷ words) ∙ g in
-      let clean' : lacks_by (known_of k before (h ∷ words)) output ≡ None = rw (e, none, head) at clean in
+      let clean' : lacks_by (known_of k before (h ∷ words)) output ≡ None =
+      rw (e, none, head) at clean in
       rw (measured_other before h words (rw g refl))
       (whole_by (known_of k before (h ∷ words))
-      (list_all (is_settled (measured_in before) (names_at is_output before (h ∷ words))) k.names) refl
-      clean')
+      (list_all (is_settled (measured_in before) (names_at is_output before (h ∷ words))) k.names)
+      refl clean')
   | inr g ↦
       let order : may_follow (last_head before) (Some End) ≡ true = rw (← g) kept.order in
       rw (measured_other before h words (rw g refl))
@@ -214,8 +215,8 @@ pub line_kept : {half : ℕ} (k k' : Reader half) (before : Lines) (here : Words
     → IsKept k before here → p ≡ point_of before here → Ends k k' p
     → (lacks_by (known_of k before here) (role_of p) ≡ None) × IsKept k' (before ++ here ∷ []) []
 line_kept k k' before [] p kept e ends =
-    let clean = ends.clean (measured_in before) (names_at is_output before []) [] None 0 kept.measured
-    kept.outputs in
+    let clean = ends.clean (measured_in before) (names_at is_output before []) [] None 0
+    kept.measured kept.outputs in
     let clean' = rw e at clean in
     absurd (cc clean')
 line_kept {half} k k' before (h ∷ words) p kept e ends =
@@ -226,8 +227,8 @@ line_kept {half} k k' before (h ∷ words) p kept e ends =
     let head : p.head ≡ head_of h = rw (e, head_at before here) refl in
     let listed = names_at-line is_output before here in
     let commands = map (plain_command {h = half}) k.commands.items in
-    let same = λ (more : List (List ℕ)). command_same k before h words p more e kept ends.typed clean
-    (head_of h) refl in (
+    let same = λ (more : List (List ℕ)). command_same k before h words p more e kept ends.typed
+    clean (head_of h) refl in (
       clean,
       record {
         names = ends.names ∙ kept.names ∙ sym (names_at-line is_defining before here);
@@ -235,8 +236,8 @@ line_kept {half} k k' before (h ∷ words) p kept e ends =
         outputs = rw (ends.names, ends.outputs, listed) kept.outputs;
         distinct = rw listed kept.distinct;
         still = rw listed (still_line k before h words (is_measuring (head_of h)) refl kept);
-        measured = rw ends.names (measured_line k k' before h words p (is_measuring (head_of h)) refl e
-            kept ends clean);
+        measured = rw ends.names
+            (measured_line k k' before h words p (is_measuring (head_of h)) refl e kept ends clean);
         operands = no_operands k'.names (bits_of k'.marks) k'.operands ends.s ends.t;
         commands = λ more.
             ends.commands

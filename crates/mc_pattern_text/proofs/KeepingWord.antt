@@ -98,7 +98,8 @@ stands_at k before here p h e = record {
   are_measured = h.measured;
   are_members = rw (← e)
       (members_at k.names k.operands here (is_in_second p) h.operands.s h.operands.t);
-  operand = λ two gate. operand_there before here p k.names k.operands.first e two gate h.operands.place;
+  operand = λ two gate.
+      operand_there before here p k.names k.operands.first e two gate h.operands.place;
 }
 
 pub count_kept : {half : ℕ} (k : Reader half) (before : Lines) (here : Words) → IsKept k before here
@@ -115,12 +116,13 @@ known_of k before here =
 
 pub same_judge : {half : ℕ} (k : Reader half) (before : Lines) (here : Words) (p : Point)
     (word : List ℕ) → IsKept k before here → p ≡ point_of before here
-    → judge_by (known_of k before here) p.last (role_of p) word ≡ pattern_rules.judge before here word
+    → judge_by (known_of k before here) p.last (role_of p) word
+    ≡ pattern_rules.judge before here word
 same_judge k before here p word h e = rw (e, h.names, count_kept k before here h) refl
 
 -- the outputs with one more word
-outputs_more : (names listed : List (List ℕ)) (outputs outputs' : List ℕ) (word : List ℕ) (t s : Bool)
-    → AreNumbers names listed outputs
+outputs_more : (names listed : List (List ℕ)) (outputs outputs' : List ℕ) (word : List ℕ)
+    (t s : Bool) → AreNumbers names listed outputs
     → Lists names outputs outputs' (if t then [] else (if s then word ∷ [] else []))
     → AreNumbers names (listed ++ (if t then [] else (if s then word ∷ [] else []))) outputs'
 outputs_more names listed outputs outputs' word true s are same =
@@ -165,7 +167,8 @@ distinct_more : (k : Known) (p : Point) (word : List ℕ) (t s : Bool) → (p.co
 distinct_more k p word true s e f clean apart = rw (e, append-nil k.listed) apart
 distinct_more k p word false false e f clean apart = rw (e, f, append-nil k.listed) apart
 distinct_more k p word false true e f clean apart =
-    rw (e, f) (IsDistinct-push nat_list_eq_equiv k.listed word apart (output_clean k p word e f clean).new)
+    let new = (output_clean k p word e f clean).new in
+    rw (e, f) (IsDistinct-push nat_list_eq_equiv k.listed word apart new)
 
 still_more : (k : Known) (p : Point) (word : List ℕ) (t s : Bool) → (p.count == 0) ≡ t
     → is_output p.head ≡ s → judge_by k p.last (role_of p) word ≡ None
@@ -191,8 +194,8 @@ room_by last word commands true e f clean gate =
 room_by last word commands false e f clean gate = grind (arith, nat_tests)
 
 -- the record word of the line, the first word of it
-order_more : {half : ℕ} (k : Reader half) (before : Lines) (here : Words) (p : Point) (word : List ℕ)
-    → IsKept k before here → p ≡ point_of before here
+order_more : {half : ℕ} (k : Reader half) (before : Lines) (here : Words) (p : Point)
+    (word : List ℕ) → IsKept k before here → p ≡ point_of before here
     → judge_by (known_of k before here) p.last (role_of p) word ≡ None
     → opens (last_head before) (here ++ word ∷ []) ≡ true
 order_more k before [] p word h e clean =
@@ -209,13 +212,13 @@ room_more k before [] p word h e clean gate =
     let clean' = rw e at clean in
     let follows = follows_by (last_head before) word (length k.commands.items)
     (may_follow (last_head before) (head_of word)) refl clean' in
-    room_by (last_head before) word (length k.commands.items) (nat_le 262144 (length k.commands.items))
-    follows refl clean' gate
+    room_by (last_head before) word (length k.commands.items)
+    (nat_le 262144 (length k.commands.items)) follows refl clean' gate
 room_more k before (w ∷ words) p word h e clean gate = h.room gate
 
 -- a preparation has one name
-single_more : {half : ℕ} (k : Reader half) (before : Lines) (here : Words) (p : Point) (word : List ℕ)
-    → p ≡ point_of before here
+single_more : {half : ℕ} (k : Reader half) (before : Lines) (here : Words) (p : Point)
+    (word : List ℕ) → p ≡ point_of before here
     → judge_by (known_of k before here) p.last (role_of p) word ≡ None
     → is_preparing (head_in (here ++ word ∷ [])) ≡ true → length (here ++ word ∷ []) ≤ 2
 single_more k before [] p word e clean gate = omega arith
@@ -286,8 +289,8 @@ word_kept {half} k k' before here p word h e m =
             (outputs_more k'.names listed k.outputs.items k'.outputs.items word (p.count == 0)
             (is_output p.head) numbers m.outputs);
         distinct = rw all_listed
-            (distinct_more (known_of k before here) p word (p.count == 0) (is_output p.head) refl refl
-            clean h.distinct);
+            (distinct_more (known_of k before here) p word (p.count == 0) (is_output p.head) refl
+            refl clean h.distinct);
         still = rw all_listed
             (still_more (known_of k before here) p word (p.count == 0) (is_output p.head) refl refl
             clean h.still);

@@ -1,4 +1,4 @@
--- The command that a line makes: it is the one that the line spells, and it may stand where it stands.
+-- The command that a line makes: it is the one that the line spells, and it may stand there.
 use Rattle.std.proofs.Common.{◌≡◌, ℕ, ◌<◌, List, [], ◌∷◌, ◌++◌, Bool, false, Option, Some, None, length, map, refl, sym, ap, ◌∙◌, lt-ltb, ne_eqb, if◌then◌else◌}
 use Rattle.std.specs.List.{list_any, flat_map}
 use Rattle.std.specs.Option.{option_map}
@@ -37,8 +37,8 @@ signals_m h words g = (rw g (append-nil (words_under is_first None words)), rw g
 
 -- a whole line: the end of it has nothing against it
 pub command_same : {half : ℕ} (k : Reader half) (before : Lines) (h : List ℕ) (words : Words)
-    (p : Point) (more : List (List ℕ)) → p ≡ point_of before (h ∷ words) → IsKept k before (h ∷ words)
-    → AreTyped k.operands → lacks_by (known_of k before (h ∷ words)) (role_of p) ≡ None
+    (p : Point) (more : List (List ℕ)) → p ≡ point_of before (h ∷ words)
+    → IsKept k before (h ∷ words) → AreTyped k.operands → lacks_by (known_of k before (h ∷ words)) (role_of p) ≡ None
     → (hd : Option Head) → head_of h ≡ hd
     → command_with hd k.operands
     ≡ option_map (command_by half (k.names ++ more)) (spelled_by hd words)
@@ -67,8 +67,10 @@ command_same k before h (a ∷ b ∷ words) p more e kept typed clean (Some M) g
     let place = kept.operands.place a (rw g refl) in
     let angle = kept.operands.angle b (rw g refl) in
     let signals = signals_m h (a ∷ b ∷ words) g in
-    let s = signal_same k.names more (first_signal (h ∷ a ∷ b ∷ words)) k.operands.s typed.s kept.operands.s in
-    let t = signal_same k.names more (second_signal (h ∷ a ∷ b ∷ words)) k.operands.t typed.t kept.operands.t in
+    let here = h ∷ a ∷ b ∷ words in
+    let o = k.operands in
+    let s = signal_same k.names more (first_signal here) o.s typed.s kept.operands.s in
+    let t = signal_same k.names more (second_signal here) o.t typed.t kept.operands.t in
     rw (
       number_in-more k.names more a k.operands.first place,
       angle,
@@ -81,14 +83,16 @@ command_same k before h [] p more e kept typed clean (Some X) g =
     let clean' = rw (e, g) at clean in absurd (cc clean')
 command_same k before h (a ∷ words) p more e kept typed clean (Some X) g =
     let place = kept.operands.place a (rw g refl) in
-    let s = signal_same k.names more (first_signal (h ∷ a ∷ words)) k.operands.s typed.s kept.operands.s in
+    let here = h ∷ a ∷ words in
+    let s = signal_same k.names more (first_signal here) k.operands.s typed.s kept.operands.s in
     let first : first_signal (h ∷ a ∷ words) ≡ words = rw g refl in
     rw (number_in-more k.names more a k.operands.first place, s, first) refl
 command_same k before h [] p more e kept typed clean (Some Z) g =
     let clean' = rw (e, g) at clean in absurd (cc clean')
 command_same k before h (a ∷ words) p more e kept typed clean (Some Z) g =
     let place = kept.operands.place a (rw g refl) in
-    let s = signal_same k.names more (first_signal (h ∷ a ∷ words)) k.operands.s typed.s kept.operands.s in
+    let here = h ∷ a ∷ words in
+    let s = signal_same k.names more (first_signal here) k.operands.s typed.s kept.operands.s in
     let first : first_signal (h ∷ a ∷ words) ≡ words = rw g refl in
     rw (number_in-more k.names more a k.operands.first place, s, first) refl
 command_same k before h words p more e kept typed clean (Some _) g = refl
@@ -137,7 +141,8 @@ IsBuiltBehind {half} k before here =
 pub built_stays : {half : ℕ} (k k' : Reader half) (before : Lines) (h : List ℕ) (words : Words)
     → IsBuiltBehind k before [] → is_defining (head_of h) ≡ false → is_input (head_of h) ≡ false
     → k'.marks ≡ k.marks
-    → map (plain_command {h = half}) k'.commands.items ≡ map (plain_command {h = half}) k.commands.items ++ []
+    → map (plain_command {h = half}) k'.commands.items
+    ≡ map (plain_command {h = half}) k.commands.items ++ []
     → IsBuiltBehind k' before (h ∷ words)
 built_stays {half} k k' before h words built d i marks commands =
     rw (
@@ -162,8 +167,9 @@ built_more {half} k k' before h words c kept d i no_prep typed rule room long bi
     let names = names_stay is_defining before h words d in
     let all : k.names ≡ names_at is_defining before [] = kept.names ∙ names in
     let rule' = rw all at rule in
-    let few : length (map (plain_command {h = half}) k.commands.items) < 262144 = rw length-map room in
+    let commands' = map (plain_command {h = half}) k.commands.items in
+    let few : length commands' < 262144 = rw length-map room in
     rw (names, names_stay is_input before h words i, commands)
     (built_push half (names_at is_defining before []) (length (names_at is_input before []))
-    (map (plain_command {h = half}) k.commands.items) k.marks k'.marks c kept.built no_prep typed rule'
-    few (long ∙ sym kept.built.long) bits)
+    commands' k.marks k'.marks c kept.built no_prep typed rule' few (long ∙ sym kept.built.long)
+    bits)

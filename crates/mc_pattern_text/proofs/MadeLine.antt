@@ -56,8 +56,8 @@ built_inputs half names inputs marks valid all long same = record {
   same = same;
 }
 
-inputs_line : {half : ℕ} (k k' : Reader half) (before : Lines) (h : List ℕ) (words : Words) (p : Point)
-    → p ≡ point_of before (h ∷ words) → IsKept k before (h ∷ words) → Ends k k' p
+inputs_line : {half : ℕ} (k k' : Reader half) (before : Lines) (h : List ℕ) (words : Words)
+    (p : Point) → p ≡ point_of before (h ∷ words) → IsKept k before (h ∷ words) → Ends k k' p
     → head_of h ≡ Some In → IsBuiltBehind k' before (h ∷ words)
 inputs_line {half} k k' before h words p e kept ends g =
     let order : may_follow (last_head before) (Some In) ≡ true = rw (← g) kept.order in
@@ -72,8 +72,8 @@ inputs_line {half} k k' before h words p e kept ends g =
     let all : length (names_at is_input before (h ∷ words)) ≡ length k.names =
     rw (kept.names, nothing, g) refl in
     rw (commands, ← kept.names)
-    (built_inputs half k.names (length (names_at is_input before (h ∷ words))) k'.marks ends.valid all
-    ends.long same)
+    (built_inputs half k.names (length (names_at is_input before (h ∷ words))) k'.marks
+    ends.valid all ends.long same)
 
 prepared_line : {half : ℕ} (k k' : Reader half) (before : Lines) (h a : List ℕ) (p : Point)
     → p ≡ point_of before (h ∷ a ∷ []) → IsKept k before (h ∷ a ∷ []) → Ends k k' p
@@ -117,8 +117,8 @@ entangling_line {half} k k' before h a b words p e kept ends g =
     let marks : k'.marks ≡ k.marks = ends.same_marks (rw head refl) in
     built_more k k' before h (a ∷ b ∷ words) (plain.Ent k.operands.first k.operands.second) kept
     (rw g refl) (rw g refl) refl tt
-    (rule_two (length k.names) (bits_of k.marks) k.operands.first k.operands.second below below' live
-    second.live second.apart)
+    (rule_two (length k.names) (bits_of k.marks) k.operands.first k.operands.second below below'
+    live second.live second.apart)
     (kept.room (rw g refl)) ends.long (ap bits_of marks) (rw head at ends.commands)
 
 measuring_line : {half : ℕ} (k k' : Reader half) (before : Lines) (h a : List ℕ) (words : Words)
@@ -136,11 +136,11 @@ measuring_line {half} k k' before h a words p e kept ends g =
     rw (list_any-append (is_undone (bits_of k.marks)) k.operands.s k.operands.t, s, t) refl in
     let typed = ends.typed in
     built_more k k' before h (a ∷ words)
-    (plain.Meas k.operands.first k.operands.angle (signal_with k.operands.s) (signal_with k.operands.t))
-    kept (rw g refl) (rw g refl) refl
+    (plain.Meas k.operands.first k.operands.angle (signal_with k.operands.s)
+    (signal_with k.operands.t)) kept (rw g refl) (rw g refl) refl
     (typed.angle, plain_signal k.operands.s typed.s, plain_signal k.operands.t typed.t)
-    (rule_one (length k.names) (bits_of k.marks) k.operands.first (k.operands.s ++ k.operands.t) below
-    live members)
+    (rule_one (length k.names) (bits_of k.marks) k.operands.first (k.operands.s ++ k.operands.t)
+    below live members)
     (kept.room (rw g refl)) ends.long marks (rw head at ends.commands)
 
 x_line : {half : ℕ} (k k' : Reader half) (before : Lines) (h a : List ℕ) (words : Words)
@@ -152,8 +152,8 @@ x_line {half} k k' before h a words p e kept ends g =
     let live = kept.operands.live a (rw g refl) in
     let marks : k'.marks ≡ k.marks = ends.same_marks (rw head refl) in
     let s = none_undone (bits_of k.marks) k.operands.s kept.operands.s_done in
-    built_more k k' before h (a ∷ words) (plain.FixX k.operands.first (signal_with k.operands.s)) kept
-    (rw g refl) (rw g refl) refl (plain_signal k.operands.s ends.typed.s)
+    built_more k k' before h (a ∷ words) (plain.FixX k.operands.first (signal_with k.operands.s))
+    kept (rw g refl) (rw g refl) refl (plain_signal k.operands.s ends.typed.s)
     (rule_one (length k.names) (bits_of k.marks) k.operands.first k.operands.s below live s)
     (kept.room (rw g refl)) ends.long (ap bits_of marks) (rw head at ends.commands)
 
@@ -166,8 +166,8 @@ z_line {half} k k' before h a words p e kept ends g =
     let live = kept.operands.live a (rw g refl) in
     let marks : k'.marks ≡ k.marks = ends.same_marks (rw head refl) in
     let s = none_undone (bits_of k.marks) k.operands.s kept.operands.s_done in
-    built_more k k' before h (a ∷ words) (plain.FixZ k.operands.first (signal_with k.operands.s)) kept
-    (rw g refl) (rw g refl) refl (plain_signal k.operands.s ends.typed.s)
+    built_more k k' before h (a ∷ words) (plain.FixZ k.operands.first (signal_with k.operands.s))
+    kept (rw g refl) (rw g refl) refl (plain_signal k.operands.s ends.typed.s)
     (rule_one (length k.names) (bits_of k.marks) k.operands.first k.operands.s below live s)
     (kept.room (rw g refl)) ends.long (ap bits_of marks) (rw head at ends.commands)
 
@@ -180,7 +180,8 @@ other_line : {half : ℕ} (k k' : Reader half) (before : Lines) (h : List ℕ) (
 other_line k k' before h words p hd e kept ends g d i m none =
     let head : p.head ≡ hd = rw (e, head_at before (h ∷ words), g) refl in
     let commands = rw (head, none) at ends.commands in
-    built_stays k k' before h words kept.built (rw g d) (rw g i) (ends.same_marks (rw head m)) commands
+    built_stays k k' before h words kept.built (rw g d) (rw g i) (ends.same_marks (rw head m))
+    commands
 
 pub built_line : {half : ℕ} (k k' : Reader half) (before : Lines) (h : List ℕ) (words : Words)
     (p : Point) → p ≡ point_of before (h ∷ words) → IsKept k before (h ∷ words) → Ends k k' p

@@ -32,26 +32,31 @@ member-any (r ∷ qs) q =
 pub marked-name : (names list : List (List ℕ)) (marks : Bits) (word : List ℕ) (q : ℕ)
     → AreMarked names list marks → place_of names word ≡ Some q → marks q ≡ is_held list word
 marked-name names list marks word q are e =
-    are.marked q ∙ member-any (map (number_in names) list) q ∙ listed-number names list word q e are.held
+    are.marked q
+    ∙ member-any (map (number_in names) list) q
+    ∙ listed-number names list word q e are.held
 
 pub still_name_clean : (names measured : List (List ℕ)) (marks : Bits) (word : List ℕ) (q : ℕ)
     → AreMarked names measured marks → known_name names word ≡ None → place_of names word ≡ Some q
     → marks q ≡ false → still_name names measured word ≡ None
 still_name_clean names measured marks word q are known e free =
-    let same : is_held measured word ≡ false = sym (marked-name names measured marks word q are e) ∙ free in
+    let same : is_held measured word ≡ false =
+    sym (marked-name names measured marks word q are e) ∙ free in
     rw (known, same) refl
 
 pub still_name_measured : (names measured : List (List ℕ)) (marks : Bits) (word : List ℕ) (q : ℕ)
     → AreMarked names measured marks → known_name names word ≡ None → place_of names word ≡ Some q
     → marks q ≡ true → still_name names measured word ≡ Some (fault Measured)
 still_name_measured names measured marks word q are known e marked =
-    let same : is_held measured word ≡ true = sym (marked-name names measured marks word q are e) ∙ marked in
+    let same : is_held measured word ≡ true =
+    sym (marked-name names measured marks word q are e) ∙ marked in
     rw (known, same) refl
 
 -- a second operand
 pub second_name_same : (names measured : List (List ℕ)) (first : Option (List ℕ)) (word : List ℕ)
     (q : ℕ) → IsOperand names first q → still_name names measured word ≡ None
-    → place_of names word ≡ Some q → second_name names measured first word ≡ Some (fault SameOperand)
+    → place_of names word ≡ Some q
+    → second_name names measured first word ≡ Some (fault SameOperand)
 second_name_same names measured first word q is still place =
     let name = place-same names is.name word q is.place place in
     let same = (slice_eq-Decides Decides-eqb is.name word (name_eq is.name word) refl).1 name in
@@ -84,7 +89,8 @@ pub output_name_twice : (names measured listed : List (List ℕ)) (outputs : Lis
     → place_of names word ≡ Some q → is_member outputs q ≡ true
     → output_name names measured listed word ≡ Some (fault ListedTwice)
 output_name_twice names measured listed outputs word q are still e member =
-    let held : is_held listed word ≡ true = sym (numbered-name names listed outputs word q are e) ∙ member in
+    let held : is_held listed word ≡ true =
+    sym (numbered-name names listed outputs word q are e) ∙ member in
     rw (still, held) refl
 
 pub output_name_clean : (names measured listed : List (List ℕ)) (outputs : List ℕ) (word : List ℕ)
@@ -92,7 +98,8 @@ pub output_name_clean : (names measured listed : List (List ℕ)) (outputs : Lis
     → place_of names word ≡ Some q → is_member outputs q ≡ false
     → output_name names measured listed word ≡ None
 output_name_clean names measured listed outputs word q are still e free =
-    let held : is_held listed word ≡ false = sym (numbered-name names listed outputs word q are e) ∙ free in
+    let held : is_held listed word ≡ false =
+    sym (numbered-name names listed outputs word q are e) ∙ free in
     rw (still, held) refl
 
 -- a member of a signal
@@ -109,7 +116,8 @@ pub member_name_early : (names measured list : List (List ℕ)) (set marks : Bit
     → marks q ≡ false → member_name names measured list word ≡ Some (fault NotMeasured)
 member_name_early names measured list set marks word q are done known e free unmarked =
     let new : is_held list word ≡ false = sym (marked-name names list set word q are e) ∙ free in
-    let not_yet : is_held measured word ≡ false = sym (marked-name names measured marks word q done e) ∙ unmarked in
+    let not_yet : is_held measured word ≡ false =
+    sym (marked-name names measured marks word q done e) ∙ unmarked in
     rw (known, new, not_yet) refl
 
 pub member_name_clean : (names measured list : List (List ℕ)) (set marks : Bits) (word : List ℕ)
@@ -118,7 +126,8 @@ pub member_name_clean : (names measured list : List (List ℕ)) (set marks : Bit
     → marks q ≡ true → member_name names measured list word ≡ None
 member_name_clean names measured list set marks word q are done known e free marked =
     let new : is_held list word ≡ false = sym (marked-name names list set word q are e) ∙ free in
-    let there : is_held measured word ≡ true = sym (marked-name names measured marks word q done e) ∙ marked in
+    let there : is_held measured word ≡ true =
+    sym (marked-name names measured marks word q done e) ∙ marked in
     rw (known, new, there) refl
 
 -- a name that goes behind distinct ones has the next number

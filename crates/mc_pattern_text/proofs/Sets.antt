@@ -117,7 +117,8 @@ numbers_below names (w ∷ list) k all member =
     let place = place-held names w both.0 in
     let number : number_in names w ≡ place.0 = rw place.1 refl in
     let below = place-below names w place.0 place.1 in
-    elim (or_either (nat_eq k (number_in names w)) (is_member (map (number_in names) list) k) member) [
+    let rest = map (number_in names) list in
+    elim (or_either (nat_eq k (number_in names w)) (is_member rest k) member) [
       | inl same ↦ let e = eqb-true k (number_in names w) same in omega arith
       | inr later ↦ numbers_below names list k both.1 later
     ]

@@ -28,7 +28,8 @@ use Rattle.mc_pattern_text.proofs.Marked.{marked-name}
 
 abbrev pub value_of : {half : ℕ} → Reader half → Pattern
 value_of {half} k =
-    with_outputs (begun k.names k.inputs (map (plain_command {h = half}) k.commands.items)) k.outputs.items
+    with_outputs (begun k.names k.inputs (map (plain_command {h = half}) k.commands.items))
+    k.outputs.items
 
 pub spells : {half : ℕ} (k : Reader half) (lines : Lines) → IsKept k lines []
     → value_of k ≡ pattern_of half lines

@@ -169,8 +169,8 @@ pub record TakesBehind {half : ℕ} (names : List (List ℕ)) (marks : Bits) (o 
   pub clean : (measured listed members : List (List ℕ)) (first : Option (List ℕ)) (commands : ℕ)
       (last : Option Head) → AreMarked names measured marks
       → AreMarked names members (is_member (set_behind o mark))
-      → judge_by (known_by names measured listed members first commands) last (role_behind mark) word
-      ≡ None
+      → judge_by (known_by names measured listed members first commands) last (role_behind mark)
+      word ≡ None
   pub first : o'.first ≡ o.first
   pub second : o'.second ≡ o.second
   pub angle : o'.angle ≡ o.angle

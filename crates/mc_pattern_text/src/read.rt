@@ -33,5 +33,5 @@ pub fn read_pattern<const H: usize>(
         return Err(end);
     }
     let _count = reader.names.len();
-    Ok(Pattern::from_parts(reader.names, reader.inputs, reader.commands, reader.outputs))
+    Ok(Pattern::of(reader.names, reader.inputs, reader.commands, reader.outputs))
 }

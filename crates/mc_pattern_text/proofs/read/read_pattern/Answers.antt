@@ -5,8 +5,8 @@ use Rattle.mc_pattern_text.specs.Judge.{pattern_rules}
 use Rattle.mc_pattern_text.proofs.Spelling.{spells, reads_pattern}
 use Rattle.mc_pattern_text.proofs.read.read_pattern.Goals as goal
 
-pub from_parts-requires : goal.from_parts-requires
-from_parts-requires g c =
+pub of-requires : goal.of-requires
+of-requires g c =
     let left = c.args.words.now in
     let ends = clean_ends pattern_rules left.later left.last c.in_default.ensures.clean in (
       omega arith,
@@ -19,5 +19,6 @@ from_parts-requires g c =
 
 pub returns-clause-value : goal.returns-clause-value
 returns-clause-value g c =
-    c.from_parts.ensures
-    ∙ spells c.read_section.new.section (section_lines c.args.words.now.later) c.in_default.ensures.read
+    c.of.ensures
+    ∙ spells c.read_section.new.section (section_lines c.args.words.now.later)
+    c.in_default.ensures.read

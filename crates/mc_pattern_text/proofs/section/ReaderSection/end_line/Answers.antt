@@ -8,7 +8,8 @@ returns-in-Ok-clause-ok g c = record {
   same_rules = refl;
   taken = λ before here h e.
       let k = c.args.self.now in
-      let kept = line_kept k c.end_command.new.kept before here c.args.point h e c.in-Ok.ensures.ok in
+      let ok = c.in-Ok.ensures.ok in
+      let kept = line_kept k c.end_command.new.kept before here c.args.point h e ok in
       (sym (same_lacks k before here c.args.point h e) ∙ kept.0, kept.1);
 }
 

@@ -7,7 +7,8 @@ returns-in-Ok-clause-ok g c = record {
   same_rules = refl;
   taken = λ before here h e.
       let k = c.args.self.now in
-      let kept = word_kept k c.take.new.kept before here c.args.point c.args.word.now h e c.in-Ok.ensures.ok in
+      let ok = c.in-Ok.ensures.ok in
+      let kept = word_kept k c.take.new.kept before here c.args.point c.args.word.now h e ok in
       (sym (same_judge k before here c.args.point c.args.word.now h e) ∙ kept.0, kept.1);
 }
 
