@@ -1,0 +1,42 @@
+-- Weights and the places of qubits among the live ones.
+use Rattle.std.proofs.Common.{◌≡◌, ℕ, zero, suc, ◌+◌, ◌*◌, ◌^◌, ◌<◌, ◌≤◌, Bool, true, false, cond, not, List, [], ◌∷◌, ◌++◌, length, take, drop, refl, sym, ap, ap₂, ◌∙◌, arith}
+use Rattle.std.specs.Prelude.{nat_eq, remove}
+use Rattle.std.proofs.Math.Nat.{two-pow-succ}
+use Rattle.std.proofs.lemmas.Bool.{eq-eqb, ne_eqb, cases_eq, false≢true}
+use mathlib.Core.Logic.{inl, inr}
+use Rattle.mc_model.specs.Numbers.{is_member}
+use Rattle.mc_run.specs.Settings.{weight, without, place}
+
+pub place_below : (live : List ℕ) (q : ℕ) → is_member live q ≡ true → place live q < length live
+place_below [] q m = absurd (false≢true m)
+place_below (r ∷ rs) q m = elim (cases_eq q r) [
+  | inl e ↦ rw (eq-eqb r q (sym e)) (omega arith)
+  | inr ne ↦
+      let n : is_member rs q ≡ true = rw (ne_eqb q r ne) at m in
+      rw (ne_eqb r q (λ e. ne (sym e))) (omega (arith, place_below rs q n))
+]
+
+pub weight_place : (live : List ℕ) (q : ℕ) → is_member live q ≡ true →
+    2 ^ place live q ≡ weight live q
+weight_place [] q m = absurd (false≢true m)
+weight_place (r ∷ rs) q m = elim (cases_eq q r) [
+  | inl e ↦ rw (eq-eqb r q (sym e), eq-eqb q r e) refl
+  | inr ne ↦
+      let n : is_member rs q ≡ true = rw (ne_eqb q r ne) at m in
+      let p = two-pow-succ (place rs q) in
+      let s : 1 + place rs q ≡ suc (place rs q) = omega arith in
+      rw (ne_eqb r q (λ e. ne (sym e)), ne_eqb q r ne, s)
+      (omega (arith, weight_place rs q n))
+]
+
+pub without_place : (live : List ℕ) (q : ℕ) → is_member live q ≡ true →
+    remove live (place live q) ≡ without live q
+without_place [] q m = absurd (false≢true m)
+without_place (r ∷ rs) q m = elim (cases_eq q r) [
+  | inl e ↦ rw (eq-eqb r q (sym e), eq-eqb q r e) refl
+  | inr ne ↦
+      let n : is_member rs q ≡ true = rw (ne_eqb q r ne) at m in
+      let s : 1 + place rs q ≡ suc (place rs q) = omega arith in
+      rw (ne_eqb r q (λ e. ne (sym e)), ne_eqb q r ne, s)
+      (ap (λ t. r ∷ t) (without_place rs q n))
+]

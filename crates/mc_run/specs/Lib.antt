@@ -1,0 +1,4 @@
+pub mod Settings
+pub mod Exact
+pub mod Sources
+pub mod Gates
