@@ -6,3 +6,4 @@ pub mod Vectors
 pub mod Starts
 pub mod There
 pub mod GatesLeft
+pub mod Outputs

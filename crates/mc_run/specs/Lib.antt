@@ -2,3 +2,5 @@ pub mod Settings
 pub mod Exact
 pub mod Sources
 pub mod Gates
+pub mod Limits
+pub mod Tables

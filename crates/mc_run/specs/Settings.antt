@@ -1,5 +1,5 @@
 -- Places in a vector of amplitudes: the settings of the live qubits that they spell.
-use Rattle.std.specs.Prelude.{ℕ, zero, suc, ◌+◌, ◌*◌, ◌/◌, ◌%◌, ◌^◌, Bool, not, cond, nat_eq, List, [], ◌∷◌}
+use Rattle.std.specs.Prelude.{ℕ, zero, suc, ◌+◌, ◌*◌, ◌/◌, ◌%◌, ◌^◌, Bool, not, cond, nat_eq, List, [], ◌∷◌, length}
 use Rattle.std.specs.List.{prefix_len}
 use Rattle.mc_model.specs.Bits.{Bits, all_zero, replaced}
 
@@ -42,3 +42,9 @@ with_digit w b i = i / (2 * w) * (2 * w) + cond b w 0 + i % w
 -- the place with a further digit of that weight
 abbrev pub with_more : ℕ → Bool → ℕ → ℕ
 with_more w b i = i / w * (2 * w) + cond b w 0 + i % w
+
+-- the place that spells the last digits of a number on the listed qubits, and 0 elsewhere
+abbrev pub place_spelled : List ℕ → List ℕ → ℕ → ℕ
+place_spelled live [] y = 0
+place_spelled live (q ∷ qs) y =
+    with_digit (weight live q) (is_odd (y / 2 ^ length qs)) (place_spelled live qs y)

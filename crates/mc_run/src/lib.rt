@@ -1,9 +1,15 @@
 //! One dense runner: the tables of circuits and of patterns, over a vector of the live qubits' amplitudes.
 #![tactic(auto)]
 
+mod column;
 mod gates;
+mod limit;
 mod place;
 mod source;
 mod state;
 mod step;
+mod table;
 mod vector;
+
+pub use limit::RunEnd;
+pub use table::Table;

@@ -1,9 +1,9 @@
 //! Places in a vector, whose binary digits are the bits of the live qubits.
 
-ghost use Rattle.std.specs.Prelude.{◌≡◌, ◌<◌, ◌≤◌, ◌^◌, length};
-ghost use Rattle.std.specs.Prelude.{true};
+ghost use Rattle.std.specs.Prelude.{◌≡◌, ◌<◌, ◌≤◌, ◌^◌, All, length, true};
 ghost use Rattle.mc_model.specs.Numbers.{is_member};
-ghost use Rattle.mc_run.specs.Settings.{is_odd, weight, place, digit, with_digit, with_more};
+ghost use Rattle.mc_run.specs.Settings.{weight, place, digit, with_digit, with_more, place_spelled};
+ghost use Rattle.mc_run.specs.Gates.{IsLiving};
 
 /// Where a qubit stands among the live ones.
 pub(crate) fn place_of(live: &[u16], q: u16) -> usize
@@ -65,5 +65,22 @@ pub(crate) fn with_more(weight: usize, bit: bool, i: usize) -> usize
         high + weight + i % weight
     } else {
         high + i % weight
+    }
+}
+
+/// The place that spells the last digits of a number on the listed qubits, the first by the most significant.
+pub(crate) fn place_spelled(live: &[u16], qubits: &[u16], y: usize) -> usize
+    requires living { All (IsLiving live.now) qubits.now }
+    requires few { length live.now ≤ 32 }
+    requires short { length qubits.now ≤ 32 }
+    ensures place { result ≡ place_spelled live.now qubits.now y }
+    ensures within { result < 2 ^ length live.now }
+{
+    match qubits {
+        [] => 0,
+        [q, rest @ ..] => {
+            let place = place_spelled(live, rest, y);
+            with_digit(weight_of(live, *q), digit(two_to(rest.len()), y), place)
+        }
     }
 }
