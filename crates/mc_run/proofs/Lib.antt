@@ -7,3 +7,6 @@ pub mod Starts
 pub mod There
 pub mod GatesLeft
 pub mod Outputs
+pub mod Joined
+pub mod Filling
+pub mod Counting

@@ -1,6 +1,7 @@
 //! One dense runner: the tables of circuits and of patterns, over a vector of the live qubits' amplitudes.
 #![tactic(auto)]
 
+mod circuit;
 mod column;
 mod gates;
 mod limit;
@@ -11,5 +12,6 @@ mod step;
 mod table;
 mod vector;
 
+pub use circuit::run_circuit;
 pub use limit::RunEnd;
 pub use table::Table;
