@@ -10,3 +10,5 @@ pub mod Outputs
 pub mod Joined
 pub mod Filling
 pub mod Counting
+pub mod Ignoring
+pub mod CommandsLeft

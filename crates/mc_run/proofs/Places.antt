@@ -1,10 +1,13 @@
 -- Weights and the places of qubits among the live ones.
-use Rattle.std.proofs.Common.{◌≡◌, ℕ, zero, suc, ◌+◌, ◌*◌, ◌^◌, ◌<◌, ◌≤◌, Bool, true, false, cond, not, List, [], ◌∷◌, ◌++◌, length, take, drop, refl, sym, ap, ap₂, ◌∙◌, arith}
+use Rattle.std.proofs.Common.{◌≡◌, ℕ, zero, suc, ◌+◌, ◌-◌, ◌*◌, ◌%◌, ◌^◌, ◌<◌, ◌≤◌, Bool, true, false, cond, not, List, [], ◌∷◌, ◌++◌, length, take, drop, refl, sym, ap, ap₂, ◌∙◌, arith}
 use Rattle.std.specs.Prelude.{nat_eq, remove}
-use Rattle.std.proofs.Math.Nat.{two-pow-succ}
+use Rattle.std.proofs.Math.Nat.{two-pow-succ, mod-mod}
 use Rattle.std.proofs.lemmas.Bool.{eq-eqb, ne_eqb, cases_eq, false≢true}
 use mathlib.Core.Logic.{inl, inr}
 use Rattle.mc_model.specs.Numbers.{is_member}
+use Rattle.mc_model.specs.Phase.{negated}
+use Rattle.mc_model.specs.Pattern.{Command, Prep, Ent, Meas, FixX, FixZ}
+use Rattle.mc_run.specs.Gates.{live_behind, IsReady, IsMeasuredLive}
 use Rattle.mc_run.specs.Settings.{weight, without, place}
 
 pub place_below : (live : List ℕ) (q : ℕ) → is_member live q ≡ true → place live q < length live
@@ -40,3 +43,29 @@ without_place (r ∷ rs) q m = elim (cases_eq q r) [
       rw (ne_eqb r q (λ e. ne (sym e)), ne_eqb q r ne, s)
       (ap (λ t. r ∷ t) (without_place rs q n))
 ]
+
+pub longest : (live : List ℕ) (c : Command) → length (live_behind live c) ≤ suc (length live)
+longest live (Prep q) = omega arith
+longest live (Ent q r) = omega arith
+longest live (FixX q s) = omega arith
+longest live (FixZ q s) = omega arith
+longest live (Meas q a s t) = shorter live q
+  where
+    shorter : (ps : List ℕ) (q : ℕ) → length (without ps q) ≤ suc (length ps)
+    shorter [] q = omega arith
+    shorter (p ∷ ps) q = elim (cases_eq q p) [
+      | inl e ↦ rw (eq-eqb q p e) (omega arith)
+      | inr ne ↦ rw (ne_eqb q p ne) (omega (arith, shorter ps q))
+    ]
+
+pub measured_live : (live : List ℕ) (n : ℕ) (c : Command) → IsReady live n c →
+    IsMeasuredLive live c
+measured_live live n (Prep q) ready = tt
+measured_live live n (Ent q r) ready = tt
+measured_live live n (FixX q s) ready = tt
+measured_live live n (FixZ q s) ready = tt
+measured_live live n (Meas q a s t) ready = ready.0
+
+pub negated_modulo : (h n : ℕ) → negated h (n % (2 * h)) ≡ negated h n
+unfolding negated
+negated_modulo h n = ap (λ k. (2 * h - k) % (2 * h)) (mod-mod n (2 * h))

@@ -1,5 +1,6 @@
 -- The places that a step takes from are there, and its sums stay low.
 use Rattle.std.proofs.Common.{◌≡◌, ℕ, suc, ◌+◌, ◌/◌, ◌^◌, ◌<◌, ◌≤◌, Bool, true, false, cond, ℤ, List, ◌∷◌, length, sym, subst, arith}
+use Rattle.std.proofs.Math.Nat.{two-pow-succ}
 use Rattle.mc_model.specs.Bits.{◌⊻◌, Bits}
 use Rattle.mc_model.specs.Numbers.{is_member}
 use Rattle.mc_model.specs.Pattern as plain
@@ -30,3 +31,14 @@ module _ (height : List ℤ → ℕ) (half : ℕ) (live : List ℕ) (v : List (L
   gate_there (plain.J q a) ready low i h =
       both_low low _ _ (with_there q i false ready h) (with_there q i true ready h)
   gate_there (plain.CZ q r) ready low i h = omega arith
+
+  pub command_there : (o : Bits) (c : plain.Command) (n : ℕ) → IsReady live n c →
+      IsLowBefore height v c → (i : ℕ) → i < 2 ^ length (live_behind live c) →
+      CanTake height v (source half (command_step half live o c) i)
+  command_there o (plain.Prep q) n ready low i h =
+      let p = two-pow-succ (length live) in omega arith
+  command_there o (plain.Ent q r) n ready low i h = omega arith
+  command_there o (plain.FixX q s) n ready low i h = with_there q i _ ready.0 h
+  command_there o (plain.FixZ q s) n ready low i h = omega arith
+  command_there o (plain.Meas q a s t) n ready low i h =
+      both_low low _ _ (more_there q i false ready.0 h) (more_there q i true ready.0 h)

@@ -64,3 +64,11 @@ IsReady live n (plain.FixX q s) = IsLiving live q × All (λ r. r < n) s.members
 IsReady live n (plain.FixZ q s) = IsLiving live q × All (λ r. r < n) s.members
 IsReady live n (plain.Meas q a s t) =
     IsLiving live q × (q < n) × All (λ r. r < n) s.members × All (λ r. r < n) t.members
+
+-- a qubit that is measured is live
+abbrev pub IsMeasuredLive : List ℕ → plain.Command → Type 0
+IsMeasuredLive live (plain.Prep q) = ⊤
+IsMeasuredLive live (plain.Ent q r) = ⊤
+IsMeasuredLive live (plain.FixX q s) = ⊤
+IsMeasuredLive live (plain.FixZ q s) = ⊤
+IsMeasuredLive live (plain.Meas q a s t) = IsLiving live q

@@ -3,6 +3,7 @@
 
 mod circuit;
 mod column;
+mod commands;
 mod gates;
 mod limit;
 mod place;
