@@ -161,7 +161,6 @@ pub(crate) fn branch_state<R: PhaseRing, const H: usize>(
         (map R.seen state.entries.items)) }
 {
     let _names = pattern.names();
-    let _outputs = pattern.outputs();
     let mut state = started(alloc, pattern.inputs(), b)?;
     'commands: for command in pattern.commands() {
         state = commanded(alloc, state, command, outcomes)?;
