@@ -5,8 +5,9 @@ use Rattle.std.proofs.Math.Seq.{drop-cons}
 use Rattle.std.proofs.lemmas.List.{drop_all}
 use Rattle.mc_model.specs.Bits.{numbers_below}
 use Rattle.mc_model.specs.Numbers.{numbers_from, ListsOnce}
-use Rattle.mc_model.specs.Pattern.{Gate, J, CZ, Circuit, wires}
-use Rattle.mc_model.specs.Amplitude.{j_count}
+use Rattle.mc_model.specs.Pattern.{Gate, J, CZ, Circuit, wires, Command, Prep, Ent, Meas, FixX, FixZ}
+use Rattle.mc_model.specs.Amplitude.{j_count, halvings}
+use Rattle.mc_model.specs.Signals.{Signal}
 use Rattle.mc_model.specs.Valid.{IsValidCircuit}
 use Rattle.mc_pattern.proofs.Listed.{length-listed, count_either}
 use Rattle.mc_run.specs.Gates.{IsLiving}
@@ -38,3 +39,16 @@ outputs_living c valid = λ k d h. member_below (wires c) _ (valid.outputs.below
 
 pub listed_few : (n : ℕ) (p : ℕ → Bool) (qs : List ℕ) → ListsOnce n p qs → length qs ≤ n
 listed_few n p qs h = omega (arith, length-listed n p qs h, count_either n p)
+
+pub halves_first : (c : Command) (cs : List Command) →
+    halvings (c ∷ cs) ≡ halvings (c ∷ []) + halvings cs
+unfolding halvings
+halves_first (Prep q) cs = omega arith
+halves_first (Ent q r) cs = omega arith
+halves_first (FixX q s) cs = omega arith
+halves_first (FixZ q s) cs = omega arith
+halves_first (Meas q a s t) cs = omega arith
+
+pub none_halves : halvings [] ≡ 0
+unfolding halvings
+none_halves = refl

@@ -1,6 +1,7 @@
 //! One dense runner: the tables of circuits and of patterns, over a vector of the live qubits' amplitudes.
 #![tactic(auto)]
 
+mod branch;
 mod circuit;
 mod column;
 mod commands;
@@ -13,6 +14,7 @@ mod step;
 mod table;
 mod vector;
 
+pub use branch::run_branch;
 pub use circuit::run_circuit;
 pub use limit::RunEnd;
 pub use table::Table;
