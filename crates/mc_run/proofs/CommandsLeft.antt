@@ -8,8 +8,7 @@ use Rattle.std.proofs.lemmas.List.Elements.{All-cons, All-nil}
 use Rattle.std.proofs.lemmas.List.Sums.{sum_by-cons}
 use mathlib.Core.Logic.{inl, inr}
 use Rattle.mc_model.specs.Bits.{Bits, replaced, numbers_below}
-use Rattle.mc_model.specs.Numbers.{is_member, ListsOnce}
-use Rattle.mc_model.specs.Signals.{Signal}
+use Rattle.mc_model.specs.Numbers.{is_member}
 use Rattle.mc_model.specs.Amplitude.{Amps, start, after, act}
 use Rattle.mc_model.specs.Pattern.{Command, Prep, Ent, Meas, FixX, FixZ, Pattern}
 use Rattle.mc_model.specs.Valid.{AllDone, IsLive, FitsBehind, IsValid, IsValidPattern, measured, prepared}
@@ -17,7 +16,7 @@ use Rattle.mc_model.proofs.BitLemmas.{replaced_same, replaced_other}
 use Rattle.mc_model.proofs.ValidLemmas.{prepared-append, next_measured, none_measured}
 use Rattle.mc_run.specs.Exact.{Exact, phases}
 use Rattle.mc_run.specs.Settings.{without}
-use Rattle.mc_run.specs.Sources.{entry, IsStepped, Holds}
+use Rattle.mc_run.specs.Sources.{IsStepped, Holds}
 use Rattle.mc_run.specs.Gates.{IsLiving, command_step, live_behind, IsReady, AreLow, IsLowBefore}
 use Rattle.mc_run.proofs.Turns.{Obeys}
 use Rattle.mc_run.proofs.Digits.{length-without}
@@ -95,9 +94,8 @@ prepared_next : (done : List Command) (c : Command) →
 prepared_next done c = prepared-append done (c ∷ []) ∙ ap (λ n. prepared done + n) (prepared_one c)
 
 module _ (ring : Exact) (Is : List ℤ → Type 0) (laws : Obeys ring Is) (o : Bits) (inputs : ℕ)
-  (all : List Command) (valid : IsValid inputs all) (end : Amps (List ℤ)) (live : List ℕ)
-  (v : List (List ℤ)) where
-
+    (all : List Command) (valid : IsValid inputs all) (end : Amps (List ℤ)) (live : List ℕ)
+    (v : List (List ℤ)) where
   -- behind a command that measures nothing
   kept : (c : Command) (left : List Command) (next : List (List ℤ)) (left_live : List ℕ)
       (here : CommandsLeft ring Is o inputs all end (c ∷ left) live v) →
@@ -337,6 +335,8 @@ output_unmeasured p valid k d h =
     let q : ℕ = get_or p.outputs k d in
     let below : q < length p.names = valid.outputs.below k d h in
     let once = valid.outputs.once q below in
-    let n = valid.qubits in
-    (omega arith, not_true _ (passes (not (measured p.commands q))
-    (let c = counted p.outputs k d h in omega arith)))
+    let n = valid.qubits in (
+      omega arith,
+      not_true _ (passes (not (measured p.commands q))
+          (let c = counted p.outputs k d h in omega arith)),
+    )

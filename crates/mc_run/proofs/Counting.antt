@@ -1,13 +1,11 @@
 -- Counts along a list of gates or commands, and the outputs of circuits.
-use Rattle.std.proofs.Common.{◌≡◌, ℕ, zero, suc, ◌+◌, ◌<◌, ◌≤◌, Bool, true, not, List, [], ◌∷◌, length, map, drop, slice_index_or, refl, sym, ap, ap₂, ◌∙◌, arith}
-use Rattle.std.specs.Prelude.{All, count_by}
+use Rattle.std.proofs.Common.{◌≡◌, ℕ, suc, ◌+◌, ◌<◌, ◌≤◌, Bool, List, [], ◌∷◌, length, map, drop, slice_index_or, refl, sym, ap, ap₂, ◌∙◌, arith}
+use Rattle.std.specs.Prelude.{All}
 use Rattle.std.proofs.Math.Seq.{drop-cons}
-use Rattle.std.proofs.lemmas.List.{drop_all}
 use Rattle.mc_model.specs.Bits.{numbers_below}
-use Rattle.mc_model.specs.Numbers.{numbers_from, ListsOnce}
+use Rattle.mc_model.specs.Numbers.{ListsOnce}
 use Rattle.mc_model.specs.Pattern.{Gate, J, CZ, Circuit, wires, Command, Prep, Ent, Meas, FixX, FixZ}
 use Rattle.mc_model.specs.Amplitude.{j_count, halvings}
-use Rattle.mc_model.specs.Signals.{Signal}
 use Rattle.mc_model.specs.Valid.{IsValidCircuit}
 use Rattle.mc_pattern.proofs.Listed.{length-listed, count_either}
 use Rattle.mc_run.specs.Gates.{IsLiving}

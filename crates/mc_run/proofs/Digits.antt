@@ -1,12 +1,12 @@
 -- Digits of places, by the digits of half the place.
-use Rattle.std.proofs.Common.{◌≡◌, ℕ, zero, suc, ◌+◌, ◌*◌, ◌/◌, ◌%◌, ◌^◌, ◌<◌, ◌≤◌, Bool, true, false, cond, List, [], ◌∷◌, length, refl, sym, ap, ap₂, ◌∙◌, arith, IsTrue}
+use Rattle.std.proofs.Common.{◌≡◌, ℕ, suc, ◌+◌, ◌*◌, ◌/◌, ◌%◌, ◌^◌, ◌<◌, ◌≤◌, Bool, true, false, cond, List, [], ◌∷◌, length, refl, sym, ap, ap₂, ◌∙◌, arith}
 use Rattle.std.specs.Prelude.{nat_eq}
 use Rattle.std.proofs.lemmas.Bool.{eq-eqb, ne_eqb, cases_eq, cases_Bool, false≢true}
 use mathlib.Core.Logic.{inl, inr}
 use Rattle.std.proofs.Math.Nat.{pow-suc}
-use Rattle.mc_model.specs.Bits.{Bits, replaced}
+use Rattle.mc_model.specs.Bits.{replaced}
 use Rattle.mc_model.specs.Numbers.{is_member}
-use Rattle.mc_model.proofs.BitLemmas.{replaced_same, replaced_other, replaced_again, replaced_swap}
+use Rattle.mc_model.proofs.BitLemmas.{replaced_again, replaced_swap}
 use Rattle.mc_run.specs.Settings.{is_odd, setting, weight, without, digit, with_digit, with_more}
 
 half_div : (i w : ℕ) → 0 < w → i / (2 * w) ≡ i / 2 / w

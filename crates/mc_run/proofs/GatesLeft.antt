@@ -1,6 +1,5 @@
 -- What the loop over the gates keeps.
-use Rattle.std.proofs.Common.{◌≡◌, ℕ, zero, suc, ◌+◌, ◌^◌, ◌<◌, ◌≤◌, Bool, true, false, ◌||◌, ℤ, List, [], ◌∷◌, length, map, drop, slice_index_or, refl, sym, subst, ap, ap₂, ◌∙◌, arith}
-use Rattle.std.specs.Prelude.{nat_eq}
+use Rattle.std.proofs.Common.{◌≡◌, ℕ, zero, suc, ◌+◌, ◌^◌, ◌<◌, ◌≤◌, true, ℤ, List, [], ◌∷◌, length, map, drop, slice_index_or, refl, sym, subst, ap₂, ◌∙◌, arith}
 use Rattle.std.proofs.Math.Seq.{drop-cons}
 use Rattle.std.proofs.Math.Pow.{pow_mono}
 use Rattle.std.proofs.lemmas.Bool.{eq-eqb, ne_eqb, cases_eq}
@@ -11,7 +10,7 @@ use Rattle.mc_model.specs.Amplitude.{Amps, after_gates, act_gate, j_count}
 use Rattle.mc_model.specs.Pattern.{Gate, J, CZ}
 use Rattle.mc_model.specs.Valid.{GatesFit}
 use Rattle.mc_run.specs.Exact.{Exact, phases}
-use Rattle.mc_run.specs.Sources.{entry, IsStepped, Holds}
+use Rattle.mc_run.specs.Sources.{IsStepped, Holds}
 use Rattle.mc_run.specs.Gates.{gate_step, IsGateReady, IsLowFor}
 use Rattle.mc_run.proofs.Turns.{Obeys}
 use Rattle.mc_run.proofs.Steps.{cz_holds, j_holds}
@@ -46,8 +45,7 @@ left_at plain gs i gate ring Is wires end v h e left =
     subst (λ t. GatesLeft ring Is wires end (map plain t) v) split left
 
 module _ (ring : Exact) (Is : List ℤ → Type 0) (laws : Obeys ring Is) (wires : ℕ)
-  (end : Amps (List ℤ)) (v : List (List ℤ)) where
-
+    (end : Amps (List ℤ)) (v : List (List ℤ)) where
   pub gate_ready : (gate : Gate) (left : List Gate) → GatesLeft ring Is wires end (gate ∷ left) v →
       IsGateReady (numbers_below wires) gate
   gate_ready (J q a) left here = member_below wires q here.fits.0

@@ -1,5 +1,5 @@
 -- Amplitudes that ignore a qubit, behind a command that does not touch it.
-use Rattle.std.proofs.Common.{◌≡◌, ℕ, Bool, true, false, List, ◌&&◌, ◌≤◌, ◌<◌, ◌+◌, refl, sym, ap, ap₂, ◌∙◌, arith}
+use Rattle.std.proofs.Common.{◌≡◌, ℕ, Bool, true, false, List, ◌&&◌, ◌≤◌, ◌+◌, sym, ap, ap₂, ◌∙◌, arith}
 use Rattle.mc_model.specs.Phase.{PhaseOps, turn, sign, negated, measured_angle}
 use Rattle.mc_model.specs.Bits.{◌⊻◌, Bits, replaced}
 use Rattle.mc_model.specs.Signals.{value}

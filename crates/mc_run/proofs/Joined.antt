@@ -1,5 +1,5 @@
 -- Amplitudes over elements of the ring, and over the lists of their coefficients.
-use Rattle.std.proofs.Common.{◌≡◌, ℕ, zero, suc, ◌^◌, ◌<◌, Bool, true, false, cond, ◌&&◌, ℤ, List, [], ◌∷◌, length, refl, sym, ap, ap₂, ◌∙◌, arith}
+use Rattle.std.proofs.Common.{◌≡◌, ℕ, zero, suc, Bool, true, false, cond, ◌&&◌, ℤ, List, [], ◌∷◌, length, refl, sym, ap, ap₂, ◌∙◌, arith}
 use Rattle.std.specs.Prelude.{All}
 use Rattle.mc_model.specs.Phase.{turn, sign, negated, measured_angle}
 use Rattle.mc_model.specs.Bits.{◌⊻◌, Bits, replaced, numbers_below}
@@ -11,7 +11,7 @@ use Rattle.mc_signal.specs.Outcomes.{bits_of}
 use Rattle.mc_cyclo.specs.Height.{height}
 use Rattle.mc_cyclo.specs.Cyclo.{IsLong}
 use Rattle.mc_run.specs.Exact.{Exact, exact, phases}
-use Rattle.mc_run.specs.Settings.{setting, spelled, place_spelled}
+use Rattle.mc_run.specs.Settings.{spelled, place_spelled}
 use Rattle.mc_run.specs.Sources.{entry, Holds}
 use Rattle.mc_run.specs.Gates.{IsLiving}
 use Rattle.mc_run.proofs.Outputs.{spelled_setting, spelled_below}

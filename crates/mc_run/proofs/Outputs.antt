@@ -1,10 +1,10 @@
 -- Places that spell bits on the outputs.
-use Rattle.std.proofs.Common.{◌≡◌, ℕ, zero, suc, ◌-◌, ◌/◌, ◌^◌, ◌<◌, ◌≤◌, Bool, true, List, [], ◌∷◌, length, get_or, take, drop, refl, sym, ap, ap₂, ◌∙◌, arith}
+use Rattle.std.proofs.Common.{◌≡◌, ℕ, suc, ◌-◌, ◌/◌, ◌^◌, ◌<◌, ◌≤◌, Bool, List, [], ◌∷◌, length, get_or, take, drop, refl, ap, ap₂, ◌∙◌, arith}
 use Rattle.std.specs.Prelude.{All}
 use Rattle.std.proofs.lemmas.Nat.{pow_pos}
 use Rattle.std.proofs.lemmas.List.Elements.{All-head, All-tail}
 use Rattle.std.proofs.lemmas.List.{take_all}
-use Rattle.mc_model.specs.Bits.{Bits, all_zero, replaced}
+use Rattle.mc_model.specs.Bits.{all_zero, replaced}
 use Rattle.mc_model.specs.Amplitude.{placed}
 use Rattle.mc_model.proofs.BitLemmas.{replaced_itself}
 use Rattle.mc_run.specs.Settings.{is_odd, setting, spelled, weight, digit, with_digit, place_spelled}

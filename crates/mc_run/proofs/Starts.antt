@@ -1,15 +1,15 @@
 -- The vector of the inputs, one by one.
-use Rattle.std.proofs.Common.{◌≡◌, ℕ, zero, suc, ◌+◌, ◌-◌, ◌/◌, ◌^◌, ◌<◌, ◌≤◌, Bool, true, false, cond, not, ◌&&◌, ℤ, List, [], ◌∷◌, length, refl, sym, subst, ap, ap₂, ◌∙◌, arith}
+use Rattle.std.proofs.Common.{◌≡◌, ℕ, zero, suc, ◌-◌, ◌/◌, ◌^◌, ◌<◌, ◌≤◌, Bool, cond, not, ◌&&◌, ℤ, List, [], ◌∷◌, length, refl, sym, subst, ap, ap₂, ◌∙◌, arith}
 use Rattle.std.proofs.lemmas.Bool.{cases_Bool}
 use mathlib.Core.Logic.{inl, inr}
 use mathlib.Core.Path.{fun_ext}
 use Rattle.mc_model.specs.Phase.{PhaseOps}
 use Rattle.mc_model.specs.Bits.{◌⊻◌, Bits, replaced, numbers_below}
-use Rattle.mc_model.specs.Amplitude.{Amps, start, agrees}
+use Rattle.mc_model.specs.Amplitude.{start, agrees}
 use Rattle.mc_model.proofs.BitLemmas.{replaced_other}
 use Rattle.mc_signal.specs.Outcomes.{bits_of}
 use Rattle.mc_run.specs.Exact.{Exact, phases}
-use Rattle.mc_run.specs.Settings.{is_odd, setting, spelled}
+use Rattle.mc_run.specs.Settings.{is_odd, spelled}
 use Rattle.mc_run.specs.Sources.{entry, IsStepped, Holds}
 use Rattle.mc_run.specs.declared.step.Step.TheVariants.{Input, Prep}
 use Rattle.mc_run.proofs.Turns.{Obeys}

@@ -1,22 +1,22 @@
 -- A step takes a vector that holds the amplitudes to one that holds those behind a gate or command.
-use Rattle.std.proofs.Common.{◌≡◌, ℕ, zero, suc, ◌+◌, ◌*◌, ◌/◌, ◌%◌, ◌^◌, ◌<◌, ◌≤◌, Bool, true, false, cond, not, ◌&&◌, ℤ, List, [], ◌∷◌, length, refl, sym, subst, ap, ap₂, ◌∙◌, arith}
+use Rattle.std.proofs.Common.{◌≡◌, ℕ, suc, ◌+◌, ◌/◌, ◌^◌, ◌<◌, ◌≤◌, Bool, true, false, cond, not, ◌&&◌, ℤ, List, ◌∷◌, length, refl, sym, subst, ap, ap₂, ◌∙◌, arith}
 use Rattle.std.proofs.Math.Nat.{two-pow-succ}
 use Rattle.std.proofs.lemmas.Bool.{cases_Bool}
 use mathlib.Core.Logic.{inl, inr}
 use Rattle.mc_model.proofs.BitLemmas.{replaced_same}
-use Rattle.mc_model.specs.Phase.{PhaseOps, turn, sign, negated, measured_angle}
+use Rattle.mc_model.specs.Phase.{turn, sign, negated, measured_angle}
 use Rattle.mc_model.specs.Bits.{◌⊻◌, Bits, replaced}
 use Rattle.mc_model.specs.Signals.{Signal, value}
 use Rattle.mc_model.specs.Numbers.{is_member}
-use Rattle.mc_model.specs.Amplitude.{Amps, act, act_gate, start, agrees}
+use Rattle.mc_model.specs.Amplitude.{Amps, act, act_gate}
 use Rattle.mc_model.specs.Pattern as plain
 use Rattle.mc_run.specs.Exact.{Exact, phases}
 use Rattle.mc_run.specs.Settings.{is_odd, setting, weight, without, digit, with_digit, with_more}
-use Rattle.mc_run.specs.Sources.{entry, taken, source, CanTake, IsStepped, Holds, half_where}
+use Rattle.mc_run.specs.Sources.{entry, taken, source, IsStepped, Holds, half_where}
 use Rattle.mc_run.specs.declared.step.Step.{Step}
 use Rattle.mc_run.specs.declared.source.Source.TheVariants.{Nought, Turned, Sum}
 use Rattle.mc_run.specs.declared.step.Step.TheVariants.{Input, Prep, Ent, X, Z, J, Meas}
-use Rattle.mc_run.proofs.Digits.{digit_of, setting_with, setting_more, with_below, more_below, length-without}
+use Rattle.mc_run.proofs.Digits.{digit_of, setting_with, setting_more, with_below, more_below}
 use Rattle.mc_run.proofs.Turns.{Obeys, sign_steps, sign_turn_steps, turn_sign_steps}
 
 -- the amplitudes are the same whatever the bit of a qubit
@@ -24,8 +24,7 @@ abbrev pub Ignores : {E : Type 0} → Amps E → ℕ → Type 0
 Ignores f q = (x : Bits) (b : Bool) → f (replaced x q b) ≡ f x
 
 module _ (ring : Exact) (Is : List ℤ → Type 0) (laws : Obeys ring Is) (live : List ℕ) (height : ℕ)
-  (f : Amps (List ℤ)) (v : List (List ℤ)) (holds : Holds ring Is live height f v) where
-
+    (f : Amps (List ℤ)) (v : List (List ℤ)) (holds : Holds ring Is live height f v) where
   -- one entry turned
   turned_entry : (next : List (List ℤ)) (i j k : ℕ) (a : List ℤ) → j < length v →
       entry next i ≡ ring.turned k (entry v j) → ring.turned k (f (setting live j)) ≡ a →
@@ -33,8 +32,8 @@ module _ (ring : Exact) (Is : List ℤ → Type 0) (laws : Obeys ring Is) (live 
   turned_entry next i j k a h e g = (
     e ∙ ap (ring.turned k) (holds.same j h) ∙ g,
     (let t = laws.height_turned k (entry v j) (holds.element j h) in
-    let l = holds.low j h in
-    let s = ap ring.height e in omega arith),
+        let l = holds.low j h in
+        let s = ap ring.height e in omega arith),
   )
 
   is_at : (j : ℕ) → j < length v → Is (f (setting live j))
@@ -247,9 +246,10 @@ module _ (ring : Exact) (Is : List ℤ → Type 0) (laws : Obeys ring Is) (live 
       (with_more w false) (with_more w true) (λ i. k + half_where ring.half (o q)) long stepped
       (λ i. refl)
       (λ i h.
-      let l : i < 2 ^ length (without live q) = subst (λ n. i < n) long h in
-      (subst (λ n. with_more w false i < n) (sym holds.long) (more_below live q false i m l),
-      subst (λ n. with_more w true i < n) (sym holds.long) (more_below live q true i m l)))
+      let l : i < 2 ^ length (without live q) = subst (λ n. i < n) long h in (
+        subst (λ n. with_more w false i < n) (sym holds.long) (more_below live q false i m l),
+        subst (λ n. with_more w true i < n) (sym holds.long) (more_below live q true i m l),
+      ))
       (λ i h is.
       ap₂ (λ x y. ring.sum x y)
       (ap f (setting_more live q false i m))

@@ -1,17 +1,16 @@
 -- The places that a step takes from are there, and its sums stay low.
-use Rattle.std.proofs.Common.{◌≡◌, ℕ, suc, ◌+◌, ◌/◌, ◌^◌, ◌<◌, ◌≤◌, Bool, true, false, cond, ℤ, List, ◌∷◌, length, sym, subst, arith}
+use Rattle.std.proofs.Common.{◌≡◌, ℕ, ◌+◌, ◌^◌, ◌<◌, ◌≤◌, Bool, true, false, ℤ, List, length, sym, subst, arith}
 use Rattle.std.proofs.Math.Nat.{two-pow-succ}
-use Rattle.mc_model.specs.Bits.{◌⊻◌, Bits}
+use Rattle.mc_model.specs.Bits.{Bits}
 use Rattle.mc_model.specs.Numbers.{is_member}
 use Rattle.mc_model.specs.Pattern as plain
-use Rattle.mc_run.specs.Settings.{weight, digit, with_digit, with_more, without}
+use Rattle.mc_run.specs.Settings.{weight, with_digit, with_more, without}
 use Rattle.mc_run.specs.Sources.{entry, source, CanTake}
 use Rattle.mc_run.specs.Gates.{gate_step, IsGateReady, AreLow, IsLowFor, IsLowBefore, command_step, live_behind, IsReady}
 use Rattle.mc_run.proofs.Digits.{with_below, more_below}
 
 module _ (height : List ℤ → ℕ) (half : ℕ) (live : List ℕ) (v : List (List ℤ))
-  (long : length v ≡ 2 ^ length live) where
-
+    (long : length v ≡ 2 ^ length live) where
   both_low : AreLow height v → (i j : ℕ) → i < length v → j < length v →
       (i < length v) × (j < length v) × (height (entry v i) + height (entry v j) ≤ 2 ^ 60)
   both_low low i j h k = let a = low i h in let b = low j k in (h, k, omega arith)

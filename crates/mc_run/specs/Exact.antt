@@ -1,5 +1,5 @@
 -- The exact operations of a ring with turns and heights, on lists of whole numbers.
-use Rattle.std.specs.Prelude.{◌≡◌, ℕ, ◌+◌, ◌≤◌, ℤ, List}
+use Rattle.std.specs.Prelude.{ℕ, ℤ, List}
 use Rattle.mc_model.specs.Phase.{PhaseOps}
 
 pub record Exact : Type 0 where

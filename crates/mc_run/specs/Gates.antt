@@ -3,7 +3,7 @@ use Rattle.std.specs.Prelude.{◌≡◌, ℕ, ◌+◌, ◌^◌, ◌<◌, ◌≤�
 use Rattle.mc_model.specs.Bits.{Bits}
 use Rattle.mc_model.specs.Numbers.{is_member}
 use Rattle.mc_model.specs.Phase.{negated, measured_angle}
-use Rattle.mc_model.specs.Signals.{Signal, value}
+use Rattle.mc_model.specs.Signals.{value}
 use Rattle.mc_model.specs.Pattern as plain
 use Rattle.mc_run.specs.Settings.{weight, without}
 use Rattle.mc_run.specs.Sources.{entry, half_where}

@@ -73,10 +73,7 @@ fn circuit_table<const H: usize>(
 /// The table of a circuit: the amplitudes that its gates make of each setting of the inputs, by the settings of the outputs
 /// (Danos, Kashefi and Panangaden 2007). `Limit` comes exactly where wires and inputs together are more than 16, by the
 /// number 4, or else the `J` gates are more than 60, by the number 5.
-pub fn run_circuit<const H: usize>(
-    alloc: Global,
-    circuit: &Circuit<H>,
-) -> Result<Table<H>, RunEnd>
+pub fn run_circuit<const H: usize>(alloc: Global, circuit: &Circuit<H>) -> Result<Table<H>, RunEnd>
     requires { IsTrue (is_permitted H) }
     ensures table { IfOk result (λ table. IsTableOf (length circuit.now.outputs) circuit.now.inputs
         (circuit_scale circuit.now) (circuit_table (ring H) circuit.now) table) }

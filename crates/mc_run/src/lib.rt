@@ -12,6 +12,8 @@ mod source;
 mod state;
 mod step;
 mod table;
+#[cfg(test)]
+mod tests;
 mod vector;
 
 pub use branch::run_branch;

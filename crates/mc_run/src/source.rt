@@ -4,6 +4,13 @@
 #[derive(Clone, Copy)]
 pub(crate) enum Source {
     Nought,
-    Turned { at: usize, steps: u32 },
-    Sum { first: usize, second: usize, steps: u32 },
+    Turned {
+        at: usize,
+        steps: u32,
+    },
+    Sum {
+        first: usize,
+        second: usize,
+        steps: u32,
+    },
 }

@@ -74,7 +74,11 @@ pub(crate) fn grown<R: PhaseRing>(
 }
 
 /// The state of inputs at the bits of a number, of which the first input's is the most significant.
-pub(crate) fn started<R: PhaseRing>(alloc: Global, inputs: u16, b: usize) -> Result<State<R>, Memory>
+pub(crate) fn started<R: PhaseRing>(
+    alloc: Global,
+    inputs: u16,
+    b: usize,
+) -> Result<State<R>, Memory>
     requires permitted { R.IsPermitted }
     requires half { R.HALF ≤ 2 ^ 16 }
     requires few { inputs ≤ 16 }

@@ -1,4 +1,4 @@
-use Rattle.std.proofs.Common.{◌≡◌, ℕ, ◌+◌, List, ◌∷◌, [], map, drop, ap, ◌∙◌, arith}
+use Rattle.std.proofs.Common.{◌≡◌, ◌+◌, List, [], map, drop, ap, ◌∙◌, arith}
 use Rattle.std.proofs.lemmas.List.{drop_all}
 use Rattle.mc_model.specs.Pattern.{Command}
 use Rattle.mc_model.specs.Amplitude.{halvings}
@@ -17,7 +17,7 @@ commands-preserved g c =
     let b = c.commands.invariant.below in
     let h = c.halves_of-count.ensures.halves in
     let k = c.halves_of-count.ensures.small in
-    record { sum = omega arith; below = omega arith; }
+    record { sum = omega arith; below = omega arith }
 
 pub returns : goal.returns
 returns g c =

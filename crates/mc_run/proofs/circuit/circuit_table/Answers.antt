@@ -1,4 +1,4 @@
-use Rattle.std.proofs.Common.{◌≡◌, ℕ, ◌+◌, ◌*◌, ◌^◌, ◌<◌, ◌≤◌, List, ℤ, ◌++◌, length, map, sym, ap, ◌∙◌, subst, arith}
+use Rattle.std.proofs.Common.{◌≡◌, ℕ, ◌+◌, ◌*◌, ◌^◌, ◌<◌, List, ℤ, ◌++◌, length, map, sym, ap, ◌∙◌, subst, arith}
 use Rattle.std.specs.Prelude.{All}
 use Rattle.mc_model.specs.Bits.{numbers_below}
 use Rattle.mc_model.specs.Pattern.{wires}
@@ -22,13 +22,21 @@ column-requires-clause-living g c =
 
 pub column-requires-clause-few : goal.column-requires-clause-few
 column-requires-clause-few g c =
-    omega (arith, ap length c.in_ok-state.ensures.live, length-below (wires c.args.circuit.now),
-    c.requires.few)
+    omega (
+      arith,
+      ap length c.in_ok-state.ensures.live,
+      length-below (wires c.args.circuit.now),
+      c.requires.few,
+    )
 
 pub column-requires-clause-short : goal.column-requires-clause-short
 column-requires-clause-short g c =
-    omega (arith, ap length c.out-outputs.ensures, c.requires.few,
-    listed_few _ _ _ c.names.ensures.valid.valid.outputs)
+    omega (
+      arith,
+      ap length c.out-outputs.ensures,
+      c.requires.few,
+      listed_few _ _ _ c.names.ensures.valid.valid.outputs,
+    )
 
 pub columns-preserved : goal.columns-preserved
 columns-preserved g c =
@@ -42,7 +50,7 @@ columns-preserved g c =
     let long : length c.in_ok-next.next.items ≡ 2 ^ length circuit.outputs =
     c.in_ok-next.ensures.length ∙ ap (λ n. 2 ^ n) out in
     let values : (y : ℕ) → y < 2 ^ length circuit.outputs →
-        entry c.in_ok-next.next.items y ≡ value y b =
+    entry c.in_ok-next.next.items y ≡ value y b =
     λ y h.
     ap (λ t. entry t y) (sym (map_same c.in_ok-next.next.items))
     ∙ c.in_ok-next.ensures.values y (subst (λ n. y < 2 ^ n) (sym out) h)
@@ -60,8 +68,12 @@ columns-preserved g c =
 
 pub overflow_cast-result : goal.overflow_cast-result
 overflow_cast-result g c =
-    omega (arith, ap length c.out-outputs.ensures, c.requires.few,
-    listed_few _ _ _ c.names.ensures.valid.valid.outputs)
+    omega (
+      arith,
+      ap length c.out-outputs.ensures,
+      c.requires.few,
+      listed_few _ _ _ c.names.ensures.valid.valid.outputs,
+    )
 
 pub invariant_of-result : goal.invariant_of-result
 invariant_of-result g c =
@@ -74,8 +86,13 @@ invariant_of-result g c =
       long = c.columns.invariant.long ∙ ap (λ b. b * 2 ^ length circuit.outputs) all
           ∙ ap (λ n. 2 ^ c.inputs-inputs.result * 2 ^ n) (sym out);
       small =
-          omega (arith, out, c.requires.few, c.inputs-inputs.ensures,
-          listed_few _ _ _ c.names.ensures.valid.valid.outputs);
+          omega (
+            arith,
+            out,
+            c.requires.few,
+            c.inputs-inputs.ensures,
+            listed_few _ _ _ c.names.ensures.valid.valid.outputs,
+          );
     }
 
 pub returns : goal.returns
@@ -87,11 +104,20 @@ returns g c =
       outputs_are = out;
       inputs_are = c.inputs-inputs.ensures;
       halves_are =
-          omega (arith, c.requires.turns, c.len-count.ensures.len,
-          ap length c.names.ensures.names, c.inputs-inputs.ensures);
+          omega (
+            arith,
+            c.requires.turns,
+            c.len-count.ensures.len,
+            ap length c.names.ensures.names,
+            c.inputs-inputs.ensures,
+          );
       entries_are = λ y b h k.
           ap (λ n. entry c.columns.entries.items (b * 2 ^ n + y)) out
           ∙ c.columns.invariant.at y b h
-          (omega (arith, c.columns-test.false, c.two_to-b-end.ensures,
-          ap (λ n. 2 ^ n) c.inputs-inputs.ensures));
+          (omega (
+            arith,
+            c.columns-test.false,
+            c.two_to-b-end.ensures,
+            ap (λ n. 2 ^ n) c.inputs-inputs.ensures,
+          ));
     }

@@ -1,4 +1,4 @@
-use Rattle.std.proofs.Common.{◌≡◌, ℕ, ◌+◌, List, ◌∷◌, [], map, drop, ap, ◌∙◌, arith}
+use Rattle.std.proofs.Common.{◌≡◌, ◌+◌, List, ◌∷◌, [], map, drop, ap, ◌∙◌, arith}
 use Rattle.std.proofs.lemmas.List.{drop_all}
 use Rattle.mc_model.specs.Pattern.{Gate}
 use Rattle.mc_model.specs.Amplitude.{j_count}
@@ -12,7 +12,7 @@ gates-preserved g c =
     let plain = plain_gate {h = g.row.H} in
     let rest : List Gate = map plain (drop (c.gates.gate-index + 1) c.args.gates.now) in
     let here : j_count (map plain (drop c.gates.gate-index c.args.gates.now))
-        ≡ j_count (plain c.gate-item.result ∷ rest) =
+    ≡ j_count (plain c.gate-item.result ∷ rest) =
     ap j_count (left_from plain c.args.gates.now c.gates.gate-index c.gate-item.result
     c.gates-test.true c.gate-item.is) in
     elim c.match-gate.branch [
@@ -21,13 +21,13 @@ gates-preserved g c =
           let s = c.gates.invariant.sum in
           let b = c.gates.invariant.below in
           let k = w.count-is in
-          record { sum = omega arith; below = omega arith; }
+          record { sum = omega arith; below = omega arith }
       | in-Cz w ↦
           let e = ap (λ x. j_count (plain x ∷ rest)) w.in-Cz.is ∙ cz_counted rest _ _ in
           let s = c.gates.invariant.sum in
           let b = c.gates.invariant.below in
           let k = w.count-is in
-          record { sum = omega arith; below = omega arith; }
+          record { sum = omega arith; below = omega arith }
     ]
 
 pub returns : goal.returns

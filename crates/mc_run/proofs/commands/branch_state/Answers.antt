@@ -1,5 +1,4 @@
-use Rattle.std.proofs.Common.{◌≡◌, ℕ, ◌+◌, ◌^◌, ◌<◌, ◌≤◌, List, ℤ, [], ◌∷◌, length, map, drop, sym, ap, ap₂, ◌∙◌, subst, arith}
-use Rattle.std.specs.Prelude.{All}
+use Rattle.std.proofs.Common.{◌≡◌, ℕ, ◌+◌, ◌≤◌, List, ℤ, [], ◌∷◌, length, map, drop, sym, ap, ◌∙◌, subst, arith}
 use Rattle.std.proofs.lemmas.List.{length-map, drop_all}
 use Rattle.mc_model.specs.Bits.{Bits, numbers_below}
 use Rattle.mc_model.specs.Amplitude.{Amps, start, after}
@@ -59,7 +58,7 @@ commanded-requires g c =
     let left : List Command =
     map (plain_command {h = g.row.H}) (drop (c.commands.command-index + 1) cs) in
     let here : CommandsLeft ring g.R.Ring.IsElement o pattern.inputs pattern.commands end
-        (command ∷ left) live v =
+    (command ∷ left) live v =
     command_left_at (plain_command {h = g.row.H}) cs c.commands.command-index c.command-item.result
     ring g.R.Ring.IsElement o pattern.inputs pattern.commands end live v c.commands-test.true
     c.command-item.is c.commands.invariant in
@@ -116,7 +115,7 @@ commands-preserved g c =
     let left : List Command =
     map (plain_command {h = g.row.H}) (drop (c.commands.command-index + 1) cs) in
     let here : CommandsLeft ring g.R.Ring.IsElement o pattern.inputs pattern.commands end
-        (command ∷ left) live v =
+    (command ∷ left) live v =
     command_left_at (plain_command {h = g.row.H}) cs c.commands.command-index c.command-item.result
     ring g.R.Ring.IsElement o pattern.inputs pattern.commands end live v c.commands-test.true
     c.command-item.is c.commands.invariant in

@@ -1,4 +1,4 @@
-use Rattle.std.proofs.Common.{◌≡◌, drop, map}
+use Rattle.std.proofs.Common.{drop, map}
 use Rattle.mc_model.specs.Amplitude.{start, after}
 use Rattle.mc_pattern.specs.Commands.{plain_command}
 use Rattle.mc_signal.specs.Outcomes.{bits_of}

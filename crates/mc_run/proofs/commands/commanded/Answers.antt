@@ -1,28 +1,30 @@
-use Rattle.std.proofs.Common.{◌≡◌, ℕ, ◌^◌, ◌<◌, ◌≤◌, List, ℤ, length, map, sym, ap, ap₂, ◌∙◌, subst, arith}
+use Rattle.std.proofs.Common.{◌≡◌, ℕ, ◌^◌, ◌<◌, List, ℤ, length, map, sym, ap, ap₂, ◌∙◌, subst, arith}
 use Rattle.std.proofs.lemmas.List.{length-map}
 use Rattle.mc_model.specs.Bits.{Bits}
 use Rattle.mc_model.specs.Pattern.{Command}
 use Rattle.mc_signal.specs.Outcomes.{bits_of}
 use Rattle.mc_pattern.specs.Commands.{plain_command}
-use Rattle.mc_run.specs.Sources.{entry, source, CanTake, IsStepped}
-use Rattle.mc_run.specs.Exact.{Exact, exact}
-use Rattle.mc_run.specs.Gates.{command_step, live_behind}
+use Rattle.mc_run.specs.Sources.{source, CanTake}
+use Rattle.mc_run.specs.Gates.{command_step}
 use Rattle.mc_run.proofs.There.{command_there}
 use Rattle.mc_run.proofs.Places.{longest, measured_live}
 use Rattle.mc_run.proofs.commands.commanded.Goals as goal
 
 pub live_behind-requires : goal.live_behind-requires
-live_behind-requires g c =
-    (
-      omega arith,
-      measured_live c.args.state.live.items (length c.args.outcomes.now)
+live_behind-requires g c = (
+  omega arith,
+  measured_live c.args.state.live.items (length c.args.outcomes.now)
       (plain_command {h = g.row.H} c.args.command.now) c.requires.ready,
-    )
+)
 
 pub advanced-requires-clause-few : goal.advanced-requires-clause-few
 advanced-requires-clause-few g c =
-    omega (arith, longest c.args.state.live.items (plain_command {h = g.row.H} c.args.command.now),
-    ap length c.in_ok-live.ensures, c.requires.few)
+    omega (
+      arith,
+      longest c.args.state.live.items (plain_command {h = g.row.H} c.args.command.now),
+      ap length c.in_ok-live.ensures,
+      c.requires.few,
+    )
 
 pub advanced-requires-clause-there : goal.advanced-requires-clause-there
 advanced-requires-clause-there g c = λ i h.

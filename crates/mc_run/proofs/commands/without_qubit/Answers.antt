@@ -6,8 +6,13 @@ use Rattle.mc_run.proofs.commands.without_qubit.Goals as goal
 
 pub remove-requires : goal.remove-requires
 remove-requires c =
-    omega (arith, place_below c.args.live.items c.args.q c.requires, c.place_of-place.ensures,
-    ap (λ l. place l c.args.q) c.deref.ensures.value, c.args.live.ok)
+    omega (
+      arith,
+      place_below c.args.live.items c.args.q c.requires,
+      c.place_of-place.ensures,
+      ap (λ l. place l c.args.q) c.deref.ensures.value,
+      c.args.live.ok,
+    )
 
 pub returns : goal.returns
 returns c =

@@ -1,7 +1,7 @@
-use Rattle.std.proofs.Common.{◌≡◌, ℕ, ◌^◌, ◌<◌, ◌≤◌, List, ℤ, length, map, sym, ap, ◌∙◌, subst, arith}
+use Rattle.std.proofs.Common.{◌≡◌, ℕ, List, ℤ, length, map, sym, ap, ◌∙◌, subst}
 use Rattle.std.proofs.lemmas.List.{length-map}
 use Rattle.mc_circuit.specs.Gates.{plain_gate}
-use Rattle.mc_run.specs.Sources.{entry, source, CanTake}
+use Rattle.mc_run.specs.Sources.{source, CanTake}
 use Rattle.mc_run.specs.Gates.{gate_step}
 use Rattle.mc_run.proofs.There.{gate_there}
 use Rattle.mc_run.proofs.gates.gated.Goals as goal

@@ -1,4 +1,4 @@
-use Rattle.std.proofs.Common.{◌≡◌, ℕ, suc, ◌+◌, ◌^◌, ◌<◌, List, ℤ, ◌∷◌, length, map, sym, ap, ◌∙◌, subst, arith}
+use Rattle.std.proofs.Common.{◌≡◌, ℕ, suc, ◌+◌, ◌^◌, List, ℤ, ◌∷◌, length, map, ap, ◌∙◌, subst, arith}
 use Rattle.std.proofs.lemmas.List.{length-map}
 use Rattle.mc_model.specs.Bits.{Bits, numbers_below}
 use Rattle.mc_model.specs.Amplitude.{start}
@@ -12,8 +12,13 @@ use Rattle.mc_run.proofs.gates.wired.Goals as goal
 
 pub grown-requires-clause-few : goal.grown-requires-clause-few
 grown-requires-clause-few g c =
-    omega (arith, ap length c.wires.invariant.live, length-below c.wires.q, c.wires-test.true,
-    c.requires.few)
+    omega (
+      arith,
+      ap length c.wires.invariant.live,
+      length-below c.wires.q,
+      c.wires-test.true,
+      c.requires.few,
+    )
 
 pub wires-preserved : goal.wires-preserved
 wires-preserved g c =

@@ -5,8 +5,12 @@ use Rattle.mc_run.proofs.place.weight_of.Goals as goal
 
 pub two_to-requires : goal.two_to-requires
 two_to-requires c =
-    omega (arith, place_below c.args.live.now c.args.q c.requires.member, c.requires.few,
-    c.place_of.ensures)
+    omega (
+      arith,
+      place_below c.args.live.now c.args.q c.requires.member,
+      c.requires.few,
+      c.place_of.ensures,
+    )
 
 pub returns-clause-weight : goal.returns-clause-weight
 returns-clause-weight c =
@@ -16,7 +20,11 @@ returns-clause-weight c =
 pub returns-clause-within : goal.returns-clause-within
 returns-clause-within c =
     let p : c.place_of.result ≤ 32 =
-    omega (arith, place_below c.args.live.now c.args.q c.requires.member, c.requires.few,
-    c.place_of.ensures) in
+    omega (
+      arith,
+      place_below c.args.live.now c.args.q c.requires.member,
+      c.requires.few,
+      c.place_of.ensures,
+    ) in
     let m : 2 ^ c.place_of.result ≤ 2 ^ 32 = pow_mono p in
     omega (arith, m, c.two_to.ensures)

@@ -1,10 +1,10 @@
-use Rattle.std.proofs.Common.{◌≡◌, ℕ, suc, ◌+◌, ◌-◌, ◌/◌, ◌^◌, ◌<◌, List, ℤ, ◌∷◌, length, map, sym, ap, ◌∙◌, subst, arith}
+use Rattle.std.proofs.Common.{◌≡◌, ℕ, suc, ◌+◌, ◌^◌, List, ℤ, ◌∷◌, length, map, sym, ap, ◌∙◌, subst, arith}
 use Rattle.std.proofs.lemmas.List.{length-map}
 use Rattle.mc_model.specs.Bits.{Bits, numbers_below}
 use Rattle.mc_model.specs.Amplitude.{start}
 use Rattle.mc_signal.specs.Outcomes.{bits_of}
 use Rattle.mc_run.specs.Exact.{Exact, exact, phases}
-use Rattle.mc_run.specs.Settings.{is_odd, digit, spelled}
+use Rattle.mc_run.specs.Settings.{digit, spelled}
 use Rattle.mc_run.specs.Sources.{Holds}
 use Rattle.mc_run.proofs.Turns.{obeys}
 use Rattle.mc_run.proofs.Starts.{length-below, spelled_at, none_holds, more_holds}
@@ -29,8 +29,13 @@ inputs-init g c =
 
 pub grown-requires-clause-few : goal.grown-requires-clause-few
 grown-requires-clause-few g c =
-    omega (arith, ap length c.inputs.invariant.live, length-below c.inputs.q, c.inputs-test.true,
-    c.requires.few)
+    omega (
+      arith,
+      ap length c.inputs.invariant.live,
+      length-below c.inputs.q,
+      c.inputs-test.true,
+      c.requires.few,
+    )
 
 pub inputs-preserved : goal.inputs-preserved
 inputs-preserved g c =

@@ -1,4 +1,4 @@
-use Rattle.std.proofs.Common.{◌≡◌, ◌^◌, length, map}
+use Rattle.std.proofs.Common.{◌≡◌, map}
 use Rattle.mc_model.specs.Bits.{numbers_below}
 use Rattle.mc_model.specs.Amplitude.{start}
 use Rattle.mc_signal.specs.Outcomes.{bits_of}
