@@ -12,3 +12,4 @@ pub mod Filling
 pub mod Counting
 pub mod Ignoring
 pub mod CommandsLeft
+pub mod Order

@@ -4,3 +4,4 @@ pub mod Sources
 pub mod Gates
 pub mod Limits
 pub mod Tables
+pub mod Reports

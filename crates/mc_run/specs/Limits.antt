@@ -2,6 +2,7 @@
 use Rattle.std.specs.Prelude.{ℕ, ◌+◌, nat_lt, if◌then◌else◌, Option, None, Some, length}
 use Rattle.mc_model.specs.Pattern.{Circuit, Pattern, wires}
 use Rattle.mc_model.specs.Amplitude.{j_count}
+use Rattle.mc_pattern.specs.Patterns.{measured_count}
 
 -- the number of the first limit that is passed and what passes it: 4, the size passes 16; 5, the
 -- count passes `most`
@@ -17,3 +18,8 @@ circuit_limit c = first_limit (wires c + c.inputs) 60 (j_count c.gates)
 -- qubits and inputs; at most 256 commands
 abbrev pub branch_limit : Pattern → Option (ℕ × ℕ)
 branch_limit p = first_limit (length p.names + p.inputs) 256 (length p.commands)
+
+-- qubits, inputs and measured qubits; at most 256 commands
+abbrev pub all_limit : Pattern → Option (ℕ × ℕ)
+all_limit p =
+    first_limit (length p.names + p.inputs + measured_count p) 256 (length p.commands)

@@ -1,6 +1,6 @@
 //! Tables of branches.
 
-ghost use Rattle.std.specs.Prelude.{◌≡◌, ◌↔◌, ℕ, ◌+◌, ◌≤◌, [], ◌∷◌, IfOk, OnOk, Err, IsTrue, None, Some, length, map};
+ghost use Rattle.std.specs.Prelude.{◌≡◌, ◌↔◌, ℕ, ◌+◌, ◌*◌, ◌^◌, ◌≤◌, [], ◌∷◌, IfOk, OnOk, Err, IsTrue, None, Some, length, map};
 ghost use Rattle.mc_model.specs.Steps.{is_permitted};
 ghost use Rattle.mc_model.specs.Ring.{ring};
 ghost use Rattle.mc_model.specs.Amplitude.{branch_map, pattern_scale, halvings};
@@ -60,8 +60,10 @@ pub(crate) fn branch_table<const H: usize>(
     requires permitted { IsTrue (is_permitted H) }
     requires few { length pattern.now.names + pattern.now.inputs ≤ 16 }
     requires outcomes { length pattern.now.names ≤ length outcomes.now }
-    ensures { IfOk result (λ table. IsTableOf (length pattern.now.outputs) pattern.now.inputs
+    ensures table { IfOk result (λ table. IsTableOf (length pattern.now.outputs) pattern.now.inputs
         (pattern_scale pattern.now) (branch_map (ring H) pattern.now (bits_of outcomes.now)) table) }
+    ensures long { IfOk result (λ table. length table.entries ≡
+        2 ^ pattern.now.inputs * 2 ^ length pattern.now.outputs) }
 {
     let _names = pattern.names();
     let inputs = pattern.inputs();

@@ -89,8 +89,8 @@ invariant_of-result g c =
           );
     }
 
-pub returns : goal.returns
-returns g c =
+pub returns-clause-table : goal.returns-clause-table
+returns-clause-table g c =
     let pattern = c.args.pattern.now in
     let out : length c.outputs-outputs.result.now ≡ length pattern.outputs =
     ap length c.outputs-outputs.ensures in
@@ -108,3 +108,10 @@ returns g c =
             ap (λ n. 2 ^ n) c.inputs-inputs.ensures,
           ));
     }
+
+pub returns-clause-long : goal.returns-clause-long
+returns-clause-long g c =
+    let all : c.columns.b ≡ 2 ^ c.args.pattern.now.inputs =
+    omega (arith, c.columns-test.false, c.columns.auto.b-end, c.two_to-b-end.ensures,
+    ap (λ n. 2 ^ n) c.inputs-inputs.ensures) in
+    c.columns.invariant.long ∙ ap (λ b. b * 2 ^ length c.args.pattern.now.outputs) all
