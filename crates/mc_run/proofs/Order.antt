@@ -98,7 +98,7 @@ module _ (inputs : ℕ) (all : List Command) (valid : IsValid inputs all) where
             (next ∙ replaced_other (measured before) r true q ne ∙ m) in
             let one : cond {A = ℕ} (nat_eq q r) 1 0 ≡ 0 = ap (λ b. cond b 1 0) (ne_eqb q r ne) in
             let it : cond {A = ℕ} (nat_eq q r || measured left q) 1 0
-                ≡ cond {A = ℕ} (measured left q) 1 0 =
+            ≡ cond {A = ℕ} (measured left q) 1 0 =
             ap (λ b. cond (b || measured left q) 1 0) (ne_eqb q r ne) in
             omega arith
       ]
@@ -157,7 +157,7 @@ placed_none (q ∷ qs) i old h e = absurd (omega arith)
 pub placed_step : (qubits : List ℕ) (i n : ℕ) (b : Bool) (old new : Bits) → 1 ≤ length qubits →
     n ≡ 2 ^ length (take (length qubits - 1) (drop 1 qubits)) → b ≡ digit n i →
     old ≡ placed (take (length qubits - 1) (drop 1 qubits))
-        (spelled (length (take (length qubits - 1) (drop 1 qubits))) i) →
+    (spelled (length (take (length qubits - 1) (drop 1 qubits))) i) →
     new ≡ replaced old (get_or qubits 0 0) b → new ≡ placed qubits (spelled (length qubits) i)
 unfolding placed
 placed_step [] i n b old new some e f g h = absurd (omega arith)

@@ -72,10 +72,7 @@ fn phase_of<const H: usize>(table: &Table<H>, first: &Table<H>) -> Option<u32>
 }
 
 /// The phase by which each table is the first one.
-fn phases_of<const H: usize>(
-    alloc: Global,
-    tables: &[Table<H>],
-) -> Result<Vec<Option<u32>>, Memory>
+fn phases_of<const H: usize>(alloc: Global, tables: &[Table<H>]) -> Result<Vec<Option<u32>>, Memory>
     requires permitted { IsTrue (is_permitted H) }
     requires alike { (i : ℕ) (d : TableValue) → i < length tables.now →
         length (slice_index_or tables.now i d).entries ≡ length (slice_index_or tables.now 0 d).entries }

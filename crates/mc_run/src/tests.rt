@@ -174,3 +174,25 @@ fn runs_branches(rt: HostRuntime) -> Result<(), Fail> {
     }
     Ok(())
 }
+
+/// The number of branches, and the phase of each of the first two whose table has the entries of `J` times its sign.
+fn phases_with(report: &Report<4>, signs: [i64; 2]) -> [Option<u32>; 2] {
+    if report.branches() == 2
+        && is_j(report.branch(0), signs[0])
+        && is_j(report.branch(1), signs[1])
+    {
+        [report.phase(0), report.phase(1)]
+    } else {
+        [Some(u32::MAX), Some(u32::MAX)]
+    }
+}
+
+#[test]
+fn runs_all_branches(rt: HostRuntime) -> Result<(), Fail> {
+    let alloc = rt.alloc();
+    let report = run_all(alloc, &pattern(&rt, alloc, true)?)?;
+    assert_eq!(rt; phases_with(&report, [1, 1]), [Some(0), Some(0)]);
+    let report = run_all(alloc, &pattern(&rt, alloc, false)?)?;
+    assert_eq!(rt; phases_with(&report, [1, -1]), [Some(0), None]);
+    Ok(())
+}

@@ -112,6 +112,11 @@ returns-clause-table g c =
 pub returns-clause-long : goal.returns-clause-long
 returns-clause-long g c =
     let all : c.columns.b ≡ 2 ^ c.args.pattern.now.inputs =
-    omega (arith, c.columns-test.false, c.columns.auto.b-end, c.two_to-b-end.ensures,
-    ap (λ n. 2 ^ n) c.inputs-inputs.ensures) in
+    omega (
+      arith,
+      c.columns-test.false,
+      c.columns.auto.b-end,
+      c.two_to-b-end.ensures,
+      ap (λ n. 2 ^ n) c.inputs-inputs.ensures,
+    ) in
     c.columns.invariant.long ∙ ap (λ b. b * 2 ^ length c.args.pattern.now.outputs) all

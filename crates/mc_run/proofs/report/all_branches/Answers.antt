@@ -1,6 +1,5 @@
-use Rattle.std.proofs.Common.{◌≡◌, ℕ, ◌+◌, ◌*◌, ◌^◌, ◌<◌, ◌≤◌, List, [], ◌∷◌, ◌++◌, length, map, slice_index_or, sym, ap, ap₂, ◌∙◌, subst, arith}
+use Rattle.std.proofs.Common.{◌≡◌, ℕ, ◌*◌, ◌^◌, ◌<◌, [], ◌∷◌, ◌++◌, length, slice_index_or, sym, ap, ◌∙◌, subst, arith}
 use Rattle.std.specs.Prelude.{All}
-use Rattle.mc_model.specs.Bits.{Bits}
 use Rattle.mc_model.specs.Ring.{ring}
 use Rattle.mc_model.specs.Amplitude.{placed, branch_map, pattern_scale}
 use Rattle.mc_signal.specs.Outcomes.{bits_of}
@@ -54,7 +53,7 @@ branches-preserved g c =
     let one : P i table = (
       c.in_ok-table.ensures.long,
       subst (λ o. IsTableOf (length pattern.outputs) pattern.inputs (pattern_scale pattern)
-      (branch_map (ring g.row.H) pattern o) table) bits c.in_ok-table.ensures.table,
+          (branch_map (ring g.row.H) pattern o) table) bits c.in_ok-table.ensures.table,
     ) in
     record {
       long = ap length items ∙ length-more c.branches.tables.items table
@@ -67,21 +66,20 @@ branches-preserved g c =
     }
 
 pub phases_of-requires : goal.phases_of-requires
-phases_of-requires g c =
-    (
-      omega arith,
-      (
-        c.requires.permitted,
-        λ i d h.
-            let e = c.deref-2.ensures.value in
-            let inside : i < length c.branches.tables.items = subst (λ ts. i < length ts) e h in
-            let some : 0 < length c.branches.tables.items = omega arith in
-            ap (λ ts. length (slice_index_or ts i d).entries) e
-            ∙ (c.branches.invariant.tables i d inside).0
-            ∙ sym ((c.branches.invariant.tables 0 d some).0)
-            ∙ sym (ap (λ ts. length (slice_index_or ts 0 d).entries) e),
-      ),
-    )
+phases_of-requires g c = (
+  omega arith,
+  (
+    c.requires.permitted,
+    λ i d h.
+        let e = c.deref-2.ensures.value in
+        let inside : i < length c.branches.tables.items = subst (λ ts. i < length ts) e h in
+        let some : 0 < length c.branches.tables.items = omega arith in
+        ap (λ ts. length (slice_index_or ts i d).entries) e
+        ∙ (c.branches.invariant.tables i d inside).0
+        ∙ sym ((c.branches.invariant.tables 0 d some).0)
+        ∙ sym (ap (λ ts. length (slice_index_or ts 0 d).entries) e),
+  ),
+)
 
 pub returns : goal.returns
 returns g c =
@@ -89,11 +87,21 @@ returns g c =
     let order : c.in_ok-order.order.items ≡ measured_order pattern.commands =
     c.in_ok-order.ensures ∙ ap measured_order c.commands.ensures in
     let n : c.len.result ≡ measured_count pattern =
-    c.len.ensures ∙ omega (arith, ap length order, c.in_ok-order.order.ok,
-    order_long pattern c.names.ensures.valid.valid) in
+    c.len.ensures ∙ omega (
+      arith,
+      ap length order,
+      c.in_ok-order.order.ok,
+      order_long pattern c.names.ensures.valid.valid,
+    ) in
     let all : length c.branches.tables.items ≡ 2 ^ measured_count pattern =
-    omega (arith, c.branches.invariant.long, c.branches-test.false, c.branches.auto.i-end,
-    c.two_to-i-end.ensures, ap (λ m. 2 ^ m) n) in
+    omega (
+      arith,
+      c.branches.invariant.long,
+      c.branches-test.false,
+      c.branches.auto.i-end,
+      c.two_to-i-end.ensures,
+      ap (λ m. 2 ^ m) n,
+    ) in
     let e = c.deref-2.ensures.value in
     record {
       count = all;

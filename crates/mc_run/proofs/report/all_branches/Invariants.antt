@@ -1,7 +1,7 @@
 use Rattle.std.proofs.Common.{◌≡◌, ℕ, ◌*◌, ◌^◌, ◌<◌, length, slice_index_or}
 use Rattle.mc_model.specs.Ring.{ring}
 use Rattle.mc_model.specs.Amplitude.{branch_map, pattern_scale}
-use Rattle.mc_run.specs.Tables.{TableValue, IsTableOf, IsTable}
+use Rattle.mc_run.specs.Tables.{TableValue, IsTableOf}
 use Rattle.mc_run.specs.Reports.{outcomes_of}
 use Rattle.mc_run.proofs.report.all_branches.Given as goal
 

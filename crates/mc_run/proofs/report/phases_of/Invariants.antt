@@ -1,4 +1,4 @@
-use Rattle.std.proofs.Common.{◌≡◌, ℕ, ◌+◌, ◌<◌, length, slice_index_or}
+use Rattle.std.proofs.Common.{◌≡◌, ℕ, ◌<◌, length, slice_index_or}
 use Rattle.std.specs.Prelude.{Option}
 use Rattle.mc_run.specs.Tables.{TableValue}
 use Rattle.mc_run.specs.Reports.{IsLeastPhase}

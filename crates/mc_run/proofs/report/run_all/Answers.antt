@@ -1,4 +1,4 @@
-use Rattle.std.proofs.Common.{◌≡◌, ◌+◌, ap, ap₂, ◌∙◌, sym, length, map}
+use Rattle.std.proofs.Common.{◌≡◌, ◌+◌, ap, ap₂, ◌∙◌, sym, length}
 use Rattle.std.specs.Prelude.{Err}
 use Rattle.std.proofs.lemmas.List.{length-map}
 use Rattle.mc_pattern.specs.Commands.{plain_command}
@@ -10,7 +10,7 @@ returns-in-Some-clause-limit g c = λ which found.
     let h = c.in-Some.ensures.limit which found in
     let commands = c.commands-count.result.now in
     let e : first_limit (c.len.result + c.inputs.result + c.measured.result) 256 (length commands)
-        ≡ all_limit c.args.pattern.now =
+    ≡ all_limit c.args.pattern.now =
     ap₂ (λ size count. first_limit size 256 count)
     (ap₂ (λ m n. m + n)
     (ap₂ (λ m n. m + n) (c.len.ensures.len ∙ ap length c.names.ensures.names) c.inputs.ensures)
