@@ -57,7 +57,7 @@ parity-agree done [] o o' same all = refl
 parity-agree done (q ∷ qs) o o' same all =
     ap₂ (λ (a b : Bool). a ⊻ b) (same q all.0) (parity-agree done qs o o' same all.1)
 
-value-agree : (done : Bits) (s : Signal) (o o' : Bits) → Agree done o o' →
+pub value-agree : (done : Bits) (s : Signal) (o o' : Bits) → Agree done o o' →
     AllDone done s.members → value s o ≡ value s o'
 unfolding value
 value-agree done s o o' same all =
