@@ -49,7 +49,7 @@ printed p headed with_inputs with_commands with_outputs whole h =
     rw (h.end, h.outputs, h.commands, h.inputs, h.header) (parts p)
 
 -- one member more
-taken_more : (xs : List ℕ) (i x : ℕ) → slice_get xs i ≡ Some x → take (suc i) xs ≡ take i xs ++ x ∷ []
+pub taken_more : (xs : List ℕ) (i x : ℕ) → slice_get xs i ≡ Some x → take (suc i) xs ≡ take i xs ++ x ∷ []
 taken_more [] i x e = absurd (cc)
 taken_more (y ∷ ys) zero x e = let same : y ≡ x = cc in ap (λ (z : ℕ). z ∷ []) same
 taken_more (y ∷ ys) (suc i) x e = ap (λ (zs : List ℕ). y ∷ zs) (taken_more ys i x e)
