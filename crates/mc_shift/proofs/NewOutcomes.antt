@@ -21,7 +21,7 @@ RowsFit done (row ∷ rows) =
     × AllDone done row.signal.members
     × RowsFit (replaced done row.qubit true) rows
 
-rows_fit : (inputs : ℕ) (before cs : List Command) → IsValid inputs (before ++ cs) →
+pub rows_fit : (inputs : ℕ) (before cs : List Command) → IsValid inputs (before ++ cs) →
     RowsFit (measured before) (change_of cs)
 unfolding measured change_of
 rows_fit inputs before [] v = tt

@@ -20,7 +20,8 @@ use Rattle.mc_standard.proofs.SettledForm.{settled_is_standard}
 use Rattle.mc_standard.proofs.Derives.{standard_stays}
 use Rattle.mc_standard.proofs.InParts.{part_of_all}
 use Rattle.mc_standard.proofs.StandardTyped.{no_plain, sum_plain}
-use Rattle.mc_shift.proofs.ShiftedForm.{expanded, shifted_signal, shifted, none_yet, shifted_form, form_exists, form_unique}
+use Rattle.mc_shift.specs.Shifted.{expanded, shifted_signal, shifted, none_yet, shifted_form}
+use Rattle.mc_shift.proofs.ShiftedForm.{form_exists, form_unique}
 use Rattle.mc_shift.proofs.ShiftedValid.{shifted_forms_valid}
 use Rattle.mc_shift.proofs.Places.{all_preps}
 use Rattle.mc_shift.proofs.Halfway.{shifted_append, shifted_front}
