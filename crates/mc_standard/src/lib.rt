@@ -4,8 +4,6 @@
 mod apply;
 mod change;
 mod copy;
-#[cfg(test)]
-mod form_tests;
 mod laws;
 mod listing;
 mod pick;

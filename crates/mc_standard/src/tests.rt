@@ -163,3 +163,35 @@ fn standardises_two_j(rt: HostRuntime) -> Result<(), Fail> {
     assert!(rt; is_two_j_standard(rewriter.commands()));
     Ok(())
 }
+
+#[test]
+fn standardises_into_parts(rt: HostRuntime) -> Result<(), Fail> {
+    let alloc = rt.alloc();
+    let standard = standardise(alloc, &two_j(&rt, alloc)?)?;
+    assert_eq!(rt; (standard.names().len(), standard.inputs()), (3, 1));
+    assert_eq!(rt; standard.outputs(), [2].as_slice());
+    assert_eq!(rt; standard.preps(), [1, 2].as_slice());
+    assert_eq!(rt; standard.edges(), [(0, 1), (1, 2)].as_slice());
+    match standard.measures() {
+        [a, b] => {
+            assert!(rt; a.q == 0 && a.angle.steps() == 7 && a.s.is_empty() && a.t.is_empty());
+            assert!(rt; b.q == 1 && b.angle.steps() == 7 && b.s.has(0) && b.t.is_empty());
+        }
+        _ => assert!(rt; false),
+    }
+    match standard.fixes() {
+        [Fix::X { q: 2, s: x }, Fix::Z { q: 2, s: z }] => assert!(rt; x.has(1) && z.has(0)),
+        _ => assert!(rt; false),
+    }
+    Ok(())
+}
+
+#[test]
+fn lists_a_standard_form(rt: HostRuntime) -> Result<(), Fail> {
+    let alloc = rt.alloc();
+    let pattern = standardise(alloc, &two_j(&rt, alloc)?)?.as_pattern(alloc)?;
+    assert_eq!(rt; (pattern.names().len(), pattern.inputs()), (3, 1));
+    assert_eq!(rt; pattern.outputs(), [2].as_slice());
+    assert!(rt; is_two_j_standard(pattern.commands()));
+    Ok(())
+}
