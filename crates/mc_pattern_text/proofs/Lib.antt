@@ -11,8 +11,17 @@ pub mod NoLimits
 mod ChangeReading
 mod ChangePrinting
 mod ChangeReadBack
-mod Under
 mod CleanCommands
 mod CleanLines
 mod CleanText
 mod ReadBack
+pub mod Marked
+pub mod Under
+pub mod Keeping
+pub mod KeepingWord
+pub mod Sets
+pub mod Made
+pub mod MadeLine
+pub mod KeepingLine
+pub mod Spelling
+pub mod Starting

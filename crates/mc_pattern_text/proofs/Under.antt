@@ -32,7 +32,8 @@ mark_from p (w ∷ words) some =
 
 pub mark_at : (before : Lines) (h : List ℕ) (words : Words)
     → (point_of before (h ∷ words)).mark ≡ fold onto_mark None words
-mark_at before h words = mark_from (next_point (first_point (last_head before)) h) words (omega arith)
+mark_at before h words =
+    mark_from (next_point (first_point (last_head before)) h) words (omega arith)
 
 words_under-word : (test : Option Mark → Bool) (mark : Option Mark) (words : Words) (word : List ℕ)
     → words_under test mark (words ++ word ∷ [])
@@ -40,7 +41,8 @@ words_under-word : (test : Option Mark → Bool) (mark : Option Mark) (words : W
 words_under-word test mark [] word = append-nil (word_under test mark word)
 words_under-word test mark (w ∷ words) word =
     rw (words_under-word test (option_or (mark_of w) mark) words word)
-    (sym (append_assoc (word_under test mark w) (words_under test (option_or (mark_of w) mark) words)
+    (sym (append_assoc (word_under test mark w)
+    (words_under test (option_or (mark_of w) mark) words)
     (word_under test (fold onto_mark (option_or (mark_of w) mark) words) word)))
 
 -- nothing is under no mark
@@ -86,7 +88,7 @@ measures_only : (h : Option Head) → is_measuring h ≡ true
     → (is_correcting h ≡ false) × (has_operand h ≡ true)
 measures_only h e = let m = measuring_head h e in rw m (refl, refl)
 
--- the words that a line adds to its first signal, where it measures, where it corrects, and elsewhere
+-- what a line adds to its first signal, where it measures, where it corrects, and elsewhere
 first_by : (p : Point) (word : List ℕ) → ¬ (p.count ≡ 0) → is_measuring p.head ≡ true
     → added_first p word ≡ behind_mark is_first p word
 first_by p word some e = rw (ne_eqb p.count 0 some, (measures_only p.head e).0, e) refl

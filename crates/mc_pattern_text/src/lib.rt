@@ -11,8 +11,12 @@ mod change_steps;
 #[cfg(test)]
 mod change_tests;
 mod laws;
+mod operands;
 mod print;
+mod read;
 mod reader;
+mod section;
+mod steps;
 #[cfg(test)]
 mod tests;
 
@@ -21,3 +25,4 @@ pub use change_print::print_change;
 pub use change_read::read_change;
 pub use laws::{canonical_texts_are_read, canonical_texts_differ};
 pub use print::print_pattern;
+pub use read::read_pattern;
