@@ -38,7 +38,8 @@ signals_m h words g = (rw g (append-nil (words_under is_first None words)), rw g
 -- a whole line: the end of it has nothing against it
 pub command_same : {half : ℕ} (k : Reader half) (before : Lines) (h : List ℕ) (words : Words)
     (p : Point) (more : List (List ℕ)) → p ≡ point_of before (h ∷ words)
-    → IsKept k before (h ∷ words) → AreTyped k.operands → lacks_by (known_of k before (h ∷ words)) (role_of p) ≡ None
+    → IsKept k before (h ∷ words) → AreTyped k.operands
+    → lacks_by (known_of k before (h ∷ words)) (role_of p) ≡ None
     → (hd : Option Head) → head_of h ≡ hd
     → command_with hd k.operands
     ≡ option_map (command_by half (k.names ++ more)) (spelled_by hd words)

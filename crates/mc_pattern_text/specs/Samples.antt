@@ -27,7 +27,7 @@ pub without_qubits : first (codes "in\nout\nend") ≡ None
 without_qubits = refl
 
 pub whole :
-    first (codes "in a b\nn q\ne a q\nm a 0\nm b 1 s: a t: a\nx q a b\nz q\nout q\nend\nmore") ≡ None
+    first (codes "in a b\nn q\ne a q\nm a 0\nm b 1 s: a t: a\nx q a b\nz q\nout q\nend\n") ≡ None
 whole = refl
 
 pub empty_signals : first (codes "in a\nm a 0 s: t:\nout\nend") ≡ None

@@ -78,12 +78,14 @@ pub(crate) fn is_marked(marks: &[bool], q: u16) -> bool
 
 /// The number of a qubit that was not measured.
 pub(crate) fn still(names: &Names, marks: &[bool], word: &[u8]) -> Result<u16, Stop>
-    ensures clean { OnOk result ((measured : List (List ℕ)) → AreMarked names.now measured (bits_of marks.now)
+    ensures clean { OnOk result ((measured : List (List ℕ))
+        → AreMarked names.now measured (bits_of marks.now)
         → still_name names.now measured word.now ≡ None) }
     ensures name { OnOk result (is_name word.now ≡ true) }
     ensures place { IfOk result (λ q. place_of names.now word.now ≡ Some q) }
     ensures live { IfOk result (λ q. bits_of marks.now q ≡ false) }
-    ensures err { IfErr result (λ stop. (measured : List (List ℕ)) → AreMarked names.now measured (bits_of marks.now)
+    ensures err { IfErr result (λ stop. (measured : List (List ℕ))
+        → AreMarked names.now measured (bits_of marks.now)
         → IsStop stop (still_name names.now measured word.now)) }
 {
     match known(names, word) {
@@ -99,12 +101,14 @@ pub(crate) fn still(names: &Names, marks: &[bool], word: &[u8]) -> Result<u16, S
 
 /// Takes the first operand of a command.
 fn take_first(names: &Names, marks: &[bool], first: &mut u16, word: &[u8]) -> Result<(), Stop>
-    ensures clean { OnOk result ((measured : List (List ℕ)) → AreMarked names.now measured (bits_of marks.now)
+    ensures clean { OnOk result ((measured : List (List ℕ))
+        → AreMarked names.now measured (bits_of marks.now)
         → still_name names.now measured word.now ≡ None) }
     ensures name { OnOk result (is_name word.now ≡ true) }
     ensures place { OnOk result (place_of names.now word.now ≡ Some first.new) }
     ensures live { OnOk result (bits_of marks.now first.new ≡ false) }
-    ensures err { IfErr result (λ stop. (measured : List (List ℕ)) → AreMarked names.now measured (bits_of marks.now)
+    ensures err { IfErr result (λ stop. (measured : List (List ℕ))
+        → AreMarked names.now measured (bits_of marks.now)
         → IsStop stop (still_name names.now measured word.now)) }
 {
     match still(names, marks, word) {
@@ -163,12 +167,14 @@ fn take_angle<const H: usize>(kept: &mut Angle<H>, word: &[u8]) -> Result<(), St
 
 /// Takes a member of a signal.
 fn take_member(names: &Names, marks: &[bool], members: &mut QSet, word: &[u8]) -> Result<(), Stop>
-    ensures clean { OnOk result ((measured list : List (List ℕ)) → AreMarked names.now measured (bits_of marks.now)
+    ensures clean { OnOk result ((measured list : List (List ℕ))
+        → AreMarked names.now measured (bits_of marks.now)
         → AreMarked names.now list (is_member members.old)
         → member_name names.now measured list word.now ≡ None) }
     ensures name { OnOk result (is_name word.now ≡ true) }
     ensures joins { OnOk result (Joins names.now (bits_of marks.now) members.old members.new (word.now ∷ [])) }
-    ensures err { IfErr result (λ stop. (measured list : List (List ℕ)) → AreMarked names.now measured (bits_of marks.now)
+    ensures err { IfErr result (λ stop. (measured list : List (List ℕ))
+        → AreMarked names.now measured (bits_of marks.now)
         → AreMarked names.now list (is_member members.old)
         → IsStop stop (member_name names.now measured list word.now)) }
 {
@@ -210,9 +216,11 @@ fn take_behind<const H: usize>(
     word: &[u8],
 ) -> Result<(), Stop>
     ensures ok { OnOk result (TakesBehind names.now (bits_of marks.now) operands.old operands.new mark word.now) }
-    ensures err { IfErr result (λ stop. (measured listed members : List (List ℕ)) (first : Option (List ℕ)) (commands : ℕ) (last : Option PlainHead)
-        → AreMarked names.now measured (bits_of marks.now) → AreMarked names.now members (is_member (set_behind operands.old mark))
-        → IsStop stop (judge_by (known_by names.now measured listed members first commands) last (role_behind mark) word.now)) }
+    ensures err { IfErr result (λ stop. (measured listed members : List (List ℕ)) (first : Option (List ℕ))
+        (commands : ℕ) (last : Option PlainHead) → AreMarked names.now measured (bits_of marks.now)
+        → AreMarked names.now members (is_member (set_behind operands.old mark))
+        → IsStop stop (judge_by (known_by names.now measured listed members first commands) last
+        (role_behind mark) word.now)) }
 {
     match mark {
         None => take_opening(word),
@@ -238,9 +246,10 @@ pub(crate) fn take_word<const H: usize>(
     requires later { point.count ≡ 0 → ⊥ }
     requires command { has_operand point.head ≡ true }
     ensures ok { OnOk result (Takes names.now (bits_of marks.now) operands.old operands.new point word.now) }
-    ensures err { IfErr result (λ stop. (measured listed members : List (List ℕ)) (first : Option (List ℕ)) (commands : ℕ)
-        → Stands names.now (bits_of marks.now) operands.old point measured members first
-        → IsStop stop (judge_by (known_by names.now measured listed members first commands) point.last (role_of point) word.now)) }
+    ensures err { IfErr result (λ stop. (measured listed members : List (List ℕ)) (first : Option (List ℕ))
+        (commands : ℕ) → Stands names.now (bits_of marks.now) operands.old point measured members first
+        → IsStop stop (judge_by (known_by names.now measured listed members first commands)
+        point.last (role_of point) word.now)) }
 {
     match (point.head, point.count) {
         (_, 1) => take_first(names, marks, &mut operands.first, word),

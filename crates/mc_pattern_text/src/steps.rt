@@ -94,11 +94,13 @@ fn take_output(
     outputs: &mut Vec<u16>,
     word: &[u8],
 ) -> Result<(), Stop>
-    ensures clean { OnOk result ((measured listed : List (List ℕ)) → AreMarked names.now measured (bits_of marks.now)
+    ensures clean { OnOk result ((measured listed : List (List ℕ))
+        → AreMarked names.now measured (bits_of marks.now)
         → AreNumbers names.now listed outputs.old.items
         → output_name names.now measured listed word.now ≡ None) }
     ensures lists { OnOk result (Lists names.now outputs.old.items outputs.new.items (word.now ∷ [])) }
-    ensures err { IfErr result (λ stop. (measured listed : List (List ℕ)) → AreMarked names.now measured (bits_of marks.now)
+    ensures err { IfErr result (λ stop. (measured listed : List (List ℕ))
+        → AreMarked names.now measured (bits_of marks.now)
         → AreNumbers names.now listed outputs.old.items
         → IsStop stop (output_name names.now measured listed word.now)) }
 {
@@ -166,7 +168,8 @@ fn settles(count: u16, marks: &[bool], numbers: &[u16]) -> bool
 
 /// Whether each name is measured or listed.
 fn settles_each(names: &Names, marks: &[bool], numbers: &[u16]) -> bool
-    ensures { (measured listed : List (List ℕ)) → AreMarked names.now measured (bits_of marks.now)
+    ensures { (measured listed : List (List ℕ))
+        → AreMarked names.now measured (bits_of marks.now)
         → AreNumbers names.now listed numbers.now → result ≡ list_all (is_settled measured listed) names.now }
 {
     settles(names.len(), marks, numbers)
@@ -174,11 +177,11 @@ fn settles_each(names: &Names, marks: &[bool], numbers: &[u16]) -> bool
 
 /// Judges the end of a line.
 fn end_words(names: &Names, marks: &[bool], outputs: &[u16], point: Point) -> Result<(), Stop>
-    ensures clean { OnOk result ((measured listed members : List (List ℕ)) (first : Option (List ℕ)) (commands : ℕ)
-        → AreMarked names.now measured (bits_of marks.now) → AreNumbers names.now listed outputs.now
+    ensures clean { OnOk result ((measured listed members : List (List ℕ)) (first : Option (List ℕ))
+        (commands : ℕ) → AreMarked names.now measured (bits_of marks.now) → AreNumbers names.now listed outputs.now
         → lacks_by (known_by names.now measured listed members first commands) (role_of point) ≡ None) }
-    ensures err { IfErr result (λ stop. (measured listed members : List (List ℕ)) (first : Option (List ℕ)) (commands : ℕ)
-        → AreMarked names.now measured (bits_of marks.now) → AreNumbers names.now listed outputs.now
+    ensures err { IfErr result (λ stop. (measured listed members : List (List ℕ)) (first : Option (List ℕ))
+        (commands : ℕ) → AreMarked names.now measured (bits_of marks.now) → AreNumbers names.now listed outputs.now
         → IsStop stop (lacks_by (known_by names.now measured listed members first commands) (role_of point))) }
 {
     match (point.head, point.count) {
@@ -230,8 +233,9 @@ fn append<const H: usize>(
 /// Judges the end of a line and takes its command.
 pub(crate) fn end_command<const H: usize>(kept: &mut Reader<H>, point: Point) -> Result<(), Stop>
     ensures ok { OnOk result (Ends kept.old kept.new point) }
-    ensures err { IfErr result (λ stop. (measured listed members : List (List ℕ)) (first : Option (List ℕ)) (commands : ℕ)
-        → AreMarked kept.old.names measured (bits_of kept.old.marks) → AreNumbers kept.old.names listed kept.old.outputs.items
+    ensures err { IfErr result (λ stop. (measured listed members : List (List ℕ)) (first : Option (List ℕ))
+        (commands : ℕ) → AreMarked kept.old.names measured (bits_of kept.old.marks)
+        → AreNumbers kept.old.names listed kept.old.outputs.items
         → IsStop stop (lacks_by (known_by kept.old.names measured listed members first commands) (role_of point))) }
 {
     if let Err(stop) = end_words(&kept.names, &kept.marks, kept.outputs.as_slice(), point) {

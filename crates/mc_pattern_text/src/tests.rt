@@ -44,9 +44,9 @@ fn prints_a_pattern(rt: HostRuntime) -> Result<(), Fail> {
     Ok(())
 }
 
-fn read(rt: &impl Abort, alloc: Global, text: &str) -> Result<Pattern<4>, TextEnd> {
+fn read(rt: &impl Abort, alloc: Global, text: &[u8]) -> Result<Pattern<4>, TextEnd> {
     assert!(rt; text.len() < 200);
-    let mut words = Words::new(text.as_bytes());
+    let mut words = Words::new(text);
     words.next_line();
     read_pattern(alloc, &mut words)
 }
@@ -54,9 +54,7 @@ fn read(rt: &impl Abort, alloc: Global, text: &str) -> Result<Pattern<4>, TextEn
 #[test]
 fn reads_what_it_prints(rt: HostRuntime) -> Result<(), Fail> {
     let text = print_pattern(rt.alloc(), &with_j(&rt, rt.alloc())?)?;
-    let mut words = Words::new(text.as_slice());
-    words.next_line();
-    let pattern: Pattern<4> = read_pattern(rt.alloc(), &mut words)
+    let pattern = read(&rt, rt.alloc(), text.as_slice())
         .ok()
         .expect(&rt, "a pattern");
     let again = print_pattern(rt.alloc(), &pattern)?;
@@ -80,7 +78,9 @@ fn reads_signals(rt: HostRuntime) -> Result<(), Fail> {
             "pattern 1\nin a b\nn c\ne c b\nm a 0\nm b 0 s: a t: a\nx c\nz c a b\nout c\nend\n",
         ),
     ] {
-        let pattern = read(&rt, rt.alloc(), text).ok().expect(&rt, text);
+        let pattern = read(&rt, rt.alloc(), text.as_bytes())
+            .ok()
+            .expect(&rt, text);
         let printed = print_pattern(rt.alloc(), &pattern)?;
         assert_eq!(rt; printed.as_slice(), due.as_bytes());
     }
@@ -116,7 +116,9 @@ fn answers_first_faults(rt: HostRuntime) {
         ("pattern 1\nin a\nx\nout a\nend\n", 7, 3, 2),
         ("pattern 1\nin a b\nm a 0\nout\nend\n", 19, 4, 4),
     ] {
-        let end = read(&rt, rt.alloc(), text).err().expect(&rt, text);
+        let end = read(&rt, rt.alloc(), text.as_bytes())
+            .err()
+            .expect(&rt, text);
         assert_eq!(rt; end, TextEnd::Refused { code, line, column });
     }
 }

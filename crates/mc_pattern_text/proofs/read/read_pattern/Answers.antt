@@ -8,11 +8,12 @@ use Rattle.mc_pattern_text.proofs.read.read_pattern.Goals as goal
 pub of-requires : goal.of-requires
 of-requires g c =
     let left = c.args.words.now in
+    let kept = c.in_default.ensures.read in
     let ends = clean_ends pattern_rules left.later left.last c.in_default.ensures.clean in (
       omega arith,
       (
         omega arith,
-        reads_pattern c.read_section.new.section (section_lines left.later) c.in_default.ensures.read
+        reads_pattern c.read_section.new.section (section_lines left.later) kept
             c.len-count.ensures.names ends,
       ),
     )
