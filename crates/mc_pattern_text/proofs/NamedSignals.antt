@@ -1,12 +1,10 @@
 -- Signals by the names of their members.
 use Rattle.std.proofs.Common.{◌≡◌, ℕ, ◌<◌, Bool, true, false, ◌&&◌, ◌||◌, List, [], ◌∷◌, ◌++◌, map, length, refl, sym, ap, ◌∙◌, arith, nat_eq, nat_lt, ne_eqb, Some, All, suc}
-use Rattle.std.specs.List.{list_any, list_all}
+use Rattle.std.specs.List.{list_all}
 use Rattle.std.proofs.lemmas.Bool.Decides.{nat_tests}
 use Rattle.std.proofs.lemmas.List.{map-append}
 use Rattle.std.proofs.lemmas.List.Folds.{list_any-append, list_all-append}
-use Rattle.std.proofs.lemmas.List.Quantifiers.{position-Some}
 use Rattle.std.specs.List.{IsDistinct}
-use mathlib.Core.Path.{fun_ext}
 use Rattle.mc_model.specs.Bits.{◌⊻◌}
 use Rattle.mc_model.specs.Names.{AreNames, name_eq, is_held, place_of}
 use Rattle.mc_model.specs.Numbers.{is_member, numbers_where}

@@ -1,12 +1,10 @@
 -- Sets by their members: the signal of a list of names.
-use Rattle.std.proofs.Common.{◌≡◌, ℕ, zero, suc, ◌+◌, ◌<◌, ◌≤◌, List, [], ◌∷◌, ◌++◌, Bool, true, false, ◌&&◌, ◌||◌, length, map, refl, sym, ap, ◌∙◌, arith, nat_eq, filter, ◌⊎◌, inl, inr}
+use Rattle.std.proofs.Common.{◌≡◌, ℕ, ◌<◌, List, [], ◌∷◌, ◌++◌, Bool, true, false, ◌&&◌, ◌||◌, length, map, refl, ap, arith, nat_eq, ◌⊎◌, inl, inr}
 use Rattle.std.specs.List.{list_all}
-use Rattle.std.proofs.lemmas.Bool.{cases_Bool, cases_eq, cases_lt, cases_order, eq-eqb, ne_eqb, eqb-true, true≢false}
-use Rattle.mc_model.specs.Numbers.{numbers_from, numbers_where, is_member}
+use Rattle.std.proofs.lemmas.Bool.{eqb-true}
+use Rattle.mc_model.specs.Numbers.{is_member}
 use Rattle.mc_model.specs.Names.{is_held}
-use Rattle.mc_model.specs.Signals.{AllAbove, IsRising}
-use Rattle.mc_signal.proofs.Rising.{AllAbove-lower}
-use Rattle.mc_signal.proofs.Members.{is_member-above}
+use Rattle.mc_model.specs.Signals.{IsRising}
 use Rattle.mc_text.specs.Rules.{number_in}
 use Rattle.mc_text.proofs.Numbers.{place-held}
 use Rattle.mc_pattern_text.specs.Value.{signal_by}
