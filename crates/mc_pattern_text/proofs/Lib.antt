@@ -11,10 +11,6 @@ pub mod NoLimits
 mod ChangeReading
 mod ChangePrinting
 mod ChangeReadBack
-mod CleanCommands
-mod CleanLines
-mod CleanText
-mod ReadBack
 pub mod Marked
 pub mod Under
 pub mod Keeping
@@ -25,3 +21,7 @@ pub mod MadeLine
 pub mod KeepingLine
 pub mod Spelling
 pub mod Starting
+mod CleanCommands
+mod CleanLines
+mod CleanText
+mod ReadBack
