@@ -1,12 +1,10 @@
 -- Signals by the names of their members.
 use Rattle.std.proofs.Common.{◌≡◌, ℕ, ◌<◌, Bool, true, false, ◌&&◌, ◌||◌, List, [], ◌∷◌, ◌++◌, map, length, refl, sym, ap, ◌∙◌, arith, nat_eq, nat_lt, ne_eqb, Some, All, suc}
-use Rattle.std.specs.List.{list_any, list_all}
+use Rattle.std.specs.List.{list_all}
 use Rattle.std.proofs.lemmas.Bool.Decides.{nat_tests}
 use Rattle.std.proofs.lemmas.List.{map-append}
 use Rattle.std.proofs.lemmas.List.Folds.{list_any-append, list_all-append}
-use Rattle.std.proofs.lemmas.List.Quantifiers.{position-Some}
 use Rattle.std.specs.List.{IsDistinct}
-use mathlib.Core.Path.{fun_ext}
 use Rattle.mc_model.specs.Bits.{◌⊻◌}
 use Rattle.mc_model.specs.Names.{AreNames, name_eq, is_held, place_of}
 use Rattle.mc_model.specs.Numbers.{is_member, numbers_where}
@@ -21,23 +19,16 @@ use Rattle.mc_text.proofs.Written.{is_written}
 use Rattle.mc_pattern.specs.Typed.{IsPlain}
 use Rattle.mc_pattern_text.specs.Value.{signal_by}
 use Rattle.mc_pattern_text.specs.ChangeKept.{IsSignalOf}
+use Rattle.mc_pattern_text.proofs.Marked.{member-any, place-below}
 use Rattle.mc_pattern_text.proofs.RisingSets.{member_where, same_where, toggled_where, where_members}
 use Rattle.mc_pattern_text.proofs.Parts.{all_front, among}
-
-pub place_below : (names : List (List ℕ)) (word : List ℕ) (q : ℕ) → place_of names word ≡ Some q
-    → q < length names
-place_below names word q place = (position-Some (name_eq word) names q [] place).0
-
-turned : (q r : ℕ) → nat_eq q r ≡ nat_eq r q
-turned q r = grind (arith, nat_tests)
 
 -- a name is in a list where its number is among the numbers of the list
 pub member-listed : (names list : List (List ℕ)) (word : List ℕ) (q : ℕ)
     → place_of names word ≡ Some q → list_all (is_held names) list ≡ true
     → is_member (map (number_in names) list) q ≡ is_held list word
 member-listed names list word q place held =
-    ap (λ (test : ℕ → Bool). list_any test (map (number_in names) list)) (fun_ext (turned q))
-    ∙ listed-number names list word q place held
+    member-any (map (number_in names) list) q ∙ listed-number names list word q place held
 
 below_test : (q n : ℕ) → q < n → nat_lt q n ≡ true
 below_test q n lt = grind (arith, nat_tests)
@@ -53,7 +44,7 @@ has-listed names list signal word q place is =
     let numbers = map (number_in names) list in
     ap (λ (s : Signal). is_member s.members q) is.same
     ∙ member_where (is_member numbers) (length names) q
-    ∙ rw (below_test q (length names) (place_below names word q place))
+    ∙ rw (below_test q (length names) (place-below names word q place))
     (and_true (is_member numbers q))
     ∙ member-listed names list word q place is.held
 
@@ -67,7 +58,7 @@ pub signal-joined : (names list : List (List ℕ)) (signal signal' : Signal) (wo
 signal-joined names list signal signal' word q place is free sum =
     let numbers = map (number_in names) list in
     let number : number_in names word ≡ q = rw place refl in
-    let lt = place_below names word q place in
+    let lt = place-below names word q place in
     let absent : is_member numbers q ≡ false = member-listed names list word q place is.held
     ∙ free in
     let all : map (number_in names) (list ++ word ∷ []) ≡ numbers ++ q ∷ [] =

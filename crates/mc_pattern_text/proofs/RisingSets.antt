@@ -123,17 +123,21 @@ toggled_where p n q lt =
     below : (k : ℕ) → nat_eq k q ≡ true → nat_lt k n ≡ true
     below k e = grind (arith, nat_tests)
 
--- a rising list of numbers below a bound is the set of its members
+-- a rising list whose members pass a test, all of them below a bound
 whole_where : (b t : Bool) → (b ≡ true → t ≡ true) → b ≡ (b && t)
 whole_where b t below = grind arith
+
+pub set_where : (set : List ℕ) (p : ℕ → Bool) (n : ℕ) → IsRising set
+    → ((k : ℕ) → is_member set k ≡ p k) → ((k : ℕ) → p k ≡ true → k < n)
+    → set ≡ numbers_where p n
+set_where set p n rising same below =
+    same_members set (numbers_where p n) rising (rising_where p n) (λ k.
+    same k ∙ whole_where (p k) (nat_lt k n) (λ e. lt_test k (below k e)) ∙ sym (member_where p n k))
+  where
+    lt_test : (k : ℕ) → k < n → nat_lt k n ≡ true
+    lt_test k lt = grind (arith, nat_tests)
 
 pub where_members : (qs : List ℕ) (n : ℕ) → IsRising qs
     → ((k : ℕ) → is_member qs k ≡ true → k < n) → numbers_where (is_member qs) n ≡ qs
 where_members qs n rising below =
-    sym (same_members qs (numbers_where (is_member qs) n) rising (rising_where (is_member qs) n)
-    (λ k.
-    whole_where (is_member qs k) (nat_lt k n) (λ e. lt_test k (below k e))
-    ∙ sym (member_where (is_member qs) n k)))
-  where
-    lt_test : (k : ℕ) → k < n → nat_lt k n ≡ true
-    lt_test k lt = grind (arith, nat_tests)
+    sym (set_where qs (is_member qs) n rising (λ k. refl) below)
