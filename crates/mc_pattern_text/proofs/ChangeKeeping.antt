@@ -1,17 +1,15 @@
 -- A word and a line of a change with nothing against them are kept.
-use Rattle.std.proofs.Common.{◌≡◌, ◌==◌, ℕ, zero, suc, ◌+◌, ◌<◌, ◌≤◌, Bool, true, false, not, ◌&&◌, List, [], ◌∷◌, ◌++◌, map, length, take, refl, sym, subst, ap, ◌∙◌, arith, nat_eq, nat_lt, nat_le, ne_eqb, Option, Some, None, slice_get, if◌then◌else◌, length-append, ◌⊎◌, inl, inr}
+use Rattle.std.proofs.Common.{◌≡◌, ◌==◌, ℕ, zero, suc, ◌≤◌, Bool, true, false, List, [], ◌∷◌, ◌++◌, map, length, take, refl, sym, ap, ◌∙◌, arith, nat_lt, nat_le, Option, Some, None, slice_get, if◌then◌else◌}
 use Rattle.std.specs.List.{filter_map, list_all}
-use Rattle.std.proofs.lemmas.Bool.{eq-eqb, eqb-true, true≢false, cases_eq}
+use Rattle.std.proofs.lemmas.Bool.{eq-eqb, eqb-true, true≢false}
 use Rattle.std.proofs.lemmas.Bool.Decides.{nat_tests}
-use Rattle.std.proofs.lemmas.List.{append-nil, map-append, length-map}
-use Rattle.std.proofs.lemmas.List.Elements.{filter_map-append}
-use Rattle.std.proofs.lemmas.List.Sums.{fold-append}
-use Rattle.mc_model.specs.Names.{is_held, place_of}
+use Rattle.std.proofs.lemmas.List.{length-map}
+use Rattle.mc_model.specs.Names.{place_of}
 use Rattle.mc_model.specs.Numbers.{is_member, numbers_where}
 use Rattle.mc_model.specs.Signals.{Signal, no_signal}
 use Rattle.mc_model.specs.Shift.{ChangeRow}
 use Rattle.mc_text.specs.declared.head.Head.{Head}
-use Rattle.mc_text.specs.declared.head.Head.TheVariants.{O, End}
+use Rattle.mc_text.specs.declared.head.Head.TheVariants.{O}
 use Rattle.mc_text.specs.declared.point.Point.{Point}
 use Rattle.mc_text.specs.Heads.{head_of, head_in, is_end}
 use Rattle.mc_text.specs.Points.{point_of, last_head}
@@ -19,32 +17,30 @@ use Rattle.mc_text.specs.Judged.{Words, Lines}
 use Rattle.mc_text.specs.Rules.{number_in}
 use Rattle.mc_text.specs.Lists.{operand_at, next_operand}
 use Rattle.mc_text.proofs.Going.{head_at}
-use Rattle.mc_text.proofs.Kept.{count_at, count_some, operand_at-word}
+use Rattle.mc_text.proofs.Kept.{count_at, operand_at-word}
 use Rattle.mc_pattern_text.specs.declared.change_reader.ChangeReader.{ChangeReader}
 use Rattle.mc_pattern_text.specs.ChangeRoles.{may_follow, role_of, record_word, is_row}
-use Rattle.mc_pattern_text.specs.ChangeRows.{qubits_of, AreEarlier}
-use Rattle.mc_pattern_text.specs.ChangeValue.{SpelledRow, spelled_row, spelled_rows, row_by, rows_of}
+use Rattle.mc_pattern_text.specs.ChangeRows.{qubits_of}
+use Rattle.mc_pattern_text.specs.ChangeValue.{spelled_row, spelled_rows, row_by}
 use Rattle.mc_pattern_text.specs.Value.{signal_by}
 use Rattle.mc_pattern_text.specs.ChangeJudge.{judge_by, lacks_by, members_in, rules_by}
-use Rattle.mc_pattern_text.specs.ChangeKept.{IsSignalOf, IsEarlier, IsChangeKept, RowMoves, RowEnds, SameRows, added_member, row_here}
-
-pub last_head-line : (before : Lines) (here : Words) → last_head (before ++ here ∷ []) ≡ head_in here
-last_head-line before here =
-    fold-append (λ (last : Option Head) (line : Words). head_in line) None before (here ∷ [])
+use Rattle.mc_pattern_text.specs.ChangeKept.{IsSignalOf, IsChangeKept, RowMoves, added_member, row_here}
 
 -- the signal without members
 where_none : (n q : ℕ) → let none : List ℕ = [] in numbers_where (is_member none) n ≡ none
 where_none n q = none_from 0 n
   where
     none_from : (q n : ℕ) → let none : List ℕ = [] in
-        Rattle.std.specs.List.filter (is_member none) (Rattle.mc_model.specs.Numbers.numbers_from q n) ≡ none
+        Rattle.std.specs.List.filter (is_member none)
+        (Rattle.mc_model.specs.Numbers.numbers_from q n) ≡ none
     none_from q zero = refl
     none_from q (suc n) = none_from (suc q) n
 
 pub no_members : (names : List (List ℕ)) → IsSignalOf names [] no_signal
 no_members names = record {
   held = refl;
-  same = ap (λ (ms : List ℕ). record { members = ms; constant = false }) (sym (where_none (length names) 0));
+  same = ap (λ (ms : List ℕ). record { members = ms; constant = false })
+      (sym (where_none (length names) 0));
 }
 
 -- there are no more rows than measured qubits
@@ -52,7 +48,8 @@ pub rows_few : (k : ChangeReader) (before : Lines) (here : Words) → IsChangeKe
     → length k.rows ≤ length k.order.items
 rows_few k before here h =
     let same = ap length h.qubits in
-    let len : length (qubits_of k.rows) ≡ length k.rows = length-map k.rows (λ (row : ChangeRow). row.qubit) in
+    let len : length (qubits_of k.rows)
+    ≡ length k.rows = length-map k.rows (λ (row : ChangeRow). row.qubit) in
     let most = length-take k.order.items (length k.rows) in
     omega (arith, same, len, most)
   where
@@ -93,7 +90,8 @@ members-word before (h ∷ []) p word e =
     none_by false = refl
 members-word before (h ∷ a ∷ words) p word e =
     let count = count_at before (h ∷ a ∷ words) in
-    let many : nat_le p.count 1 ≡ false = rw e (two_more (point_of before (h ∷ a ∷ words)).count (omega arith)) in
+    let many : nat_le p.count 1
+    ≡ false = rw e (two_more (point_of before (h ∷ a ∷ words)).count (omega arith)) in
     let head : p.head ≡ head_of h = rw e (head_at before (h ∷ a ∷ words)) in
     rw (many, head) (more_by (is_row (head_of h)) words word)
   where
@@ -101,7 +99,8 @@ members-word before (h ∷ a ∷ words) p word e =
     two_more c le = grind (arith, nat_tests)
 
 -- the qubit of a row
-row_head : (here : Words) (a : List ℕ) → operand_at 0 is_row here ≡ Some a → is_row (head_in here) ≡ true
+row_head : (here : Words) (a : List ℕ) → operand_at 0 is_row here ≡ Some a → is_row (head_in here)
+    ≡ true
 row_head [] a e = absurd (cc e)
 row_head (h ∷ words) a e = by_test (is_row (head_of h)) refl
   where
@@ -133,7 +132,8 @@ qubit_more k k' before here p word false s h e m one row a is =
 -- the word `end`
 ends_by : (order : List ℕ) (rows : ℕ) (last : Option Head) (word : List ℕ) (t s : Bool)
     → may_follow last (head_of word) ≡ t → nat_lt rows (length order) ≡ s
-    → judge_by [] order rows [] last record_word word ≡ None → is_end (head_of word) ≡ true → s ≡ false
+    → judge_by [] order rows [] last record_word word ≡ None → is_end (head_of word) ≡ true → s
+    ≡ false
 ends_by order rows last word false s e f clean ends =
     let clean' = rw e at clean in absurd (cc clean')
 ends_by order rows last word true true e f clean ends =
@@ -217,7 +217,8 @@ spelled_here names (h ∷ a ∷ words) q signal p before e clean place is =
     head = rw e (head_at before (h ∷ a ∷ words))
 
     by_test : (t : Bool) → is_row (head_of h) ≡ t
-        → map (row_by names) (filter_map spelled_row ((h ∷ a ∷ words) ∷ [])) ≡ row_here p.head q signal
+        → map (row_by names) (filter_map spelled_row ((h ∷ a ∷ words) ∷ []))
+        ≡ row_here p.head q signal
     by_test false f = rw (head, f) refl
     by_test true f =
         let there : place_of names a ≡ Some q = place a (rw f refl) in

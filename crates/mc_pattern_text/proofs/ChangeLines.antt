@@ -1,7 +1,6 @@
 -- The end of a line of a change with nothing against it is kept.
-use Rattle.std.proofs.Common.{◌≡◌, ℕ, zero, suc, ◌+◌, ◌<◌, ◌≤◌, Bool, true, false, List, [], ◌∷◌, ◌++◌, map, length, take, refl, sym, subst, ap, ◌∙◌, arith, Option, Some, None, slice_get, if◌then◌else◌, length-append, ◌⊎◌, inl, inr}
+use Rattle.std.proofs.Common.{◌≡◌, ℕ, zero, suc, Bool, true, false, List, [], ◌∷◌, ◌++◌, length, take, refl, sym, ap, ◌∙◌, arith, Option, Some, None, slice_get, length-append, ◌⊎◌, inl, inr}
 use Rattle.std.specs.List.{filter_map}
-use Rattle.std.proofs.lemmas.Bool.{true≢false}
 use Rattle.std.proofs.lemmas.List.{append-nil, map-append}
 use Rattle.std.proofs.lemmas.List.Elements.{filter_map-append}
 use Rattle.mc_model.specs.Names.{place_of}
@@ -11,8 +10,8 @@ use Rattle.mc_model.specs.Shift.{ChangeRow}
 use Rattle.mc_text.specs.declared.head.Head.{Head}
 use Rattle.mc_text.specs.declared.head.Head.TheVariants.{O}
 use Rattle.mc_text.specs.declared.point.Point.{Point}
-use Rattle.mc_text.specs.Heads.{head_of, head_in, is_end}
-use Rattle.mc_text.specs.Points.{point_of, last_head}
+use Rattle.mc_text.specs.Heads.{head_of}
+use Rattle.mc_text.specs.Points.{point_of}
 use Rattle.mc_text.specs.Judged.{Words, Lines}
 use Rattle.mc_text.specs.Lists.{operand_at}
 use Rattle.mc_text.proofs.Going.{head_at}
@@ -23,8 +22,8 @@ use Rattle.mc_pattern_text.specs.ChangeRows.{qubits_of, AreEarlier}
 use Rattle.mc_pattern_text.specs.ChangeValue.{spelled_row, spelled_rows, row_by, rows_of}
 use Rattle.mc_pattern_text.specs.ChangeJudge.{lacks_by, members_in, rules_by}
 use Rattle.mc_pattern_text.specs.ChangeKept.{IsSignalOf, IsEarlier, IsChangeKept, RowEnds, row_here}
-use Rattle.mc_pattern_text.proofs.Printing.{taken_more}
-use Rattle.mc_pattern_text.proofs.ChangeKeeping.{last_head-line, no_members, spelled_here}
+use Rattle.mc_pattern_text.proofs.Parts.{last_head-line, taken_more}
+use Rattle.mc_pattern_text.proofs.ChangeKeeping.{no_members, spelled_here}
 
 -- the rows of the lines with one more
 rows-line : (names : List (List ℕ)) (rows : List ChangeRow) (before : Lines) (here : Words) (q : ℕ)
@@ -86,7 +85,8 @@ qubits_by : (order : List ℕ) (rows : List ChangeRow) (q : ℕ) (signal : Signa
 qubits_by order rows q signal head false e same next = rw (e, append-nil rows) same
 qubits_by order rows q signal head true e same next =
     let row : ChangeRow = record { qubit = q; signal = signal } in
-    let len : length (rows ++ row ∷ []) ≡ suc (length rows) = length-append rows (row ∷ []) ∙ omega arith in
+    let len : length (rows ++ row ∷ []) ≡ suc (length rows) = length-append rows (row ∷ [])
+    ∙ omega arith in
     rw (
       e,
       map-append (λ (r : ChangeRow). r.qubit) rows (row ∷ []),

@@ -1,12 +1,12 @@
 -- What a member of a row does.
-use Rattle.std.proofs.Common.{◌≡◌, Result, OnOk, Ok, Err, ℕ, zero, suc, nat_le, ne_eqb, ◌<◌, ◌≤◌, Bool, true, false, not, ◌&&◌, ◌||◌, List, [], ◌∷◌, ◌++◌, map, length, take, refl, sym, ap, ◌∙◌, arith, nat_eq, nat_lt, Some, None, slice_index_or}
+use Rattle.std.proofs.Common.{◌≡◌, Result, OnOk, Ok, Err, ℕ, nat_le, ne_eqb, ◌<◌, ◌≤◌, Bool, true, false, List, map, length, take, refl, sym, ap, ◌∙◌, arith, nat_eq, nat_lt, Some, None, slice_index_or}
 use Rattle.std.proofs.lemmas.Bool.Decides.{nat_tests}
 use Rattle.std.proofs.lemmas.Bool.{cases_Bool}
 use mathlib.Core.Logic.{inl, inr}
 use Rattle.mc_model.specs.Bits.{◌⊻◌}
-use Rattle.mc_model.specs.Names.{is_name, is_held, place_of}
+use Rattle.mc_model.specs.Names.{is_held, place_of}
 use Rattle.mc_model.specs.Numbers.{is_member}
-use Rattle.mc_model.specs.Signals.{Signal, signal_of, signal_sum, toggled, IsRising}
+use Rattle.mc_model.specs.Signals.{Signal, signal_of, signal_sum, IsRising}
 use Rattle.mc_signal.proofs.Members.{toggled_all-single, is_member-toggled}
 use Rattle.mc_text.specs.declared.head.Head.TheVariants.{O}
 use Rattle.mc_text.specs.declared.point.Point.{Point}
@@ -25,7 +25,8 @@ pub member-twice : (names list : List (List ℕ)) (earlier : List ℕ) (signal :
     → IsSignalOf names list signal → is_member signal.members q ≡ true
     → member_word names earlier list word ≡ Some (fault ListedTwice)
 member-twice names list earlier signal word q known place is has =
-    let held : is_held list word ≡ true = sym (has-listed names list signal word q place is) ∙ has in
+    let held : is_held list word ≡ true = sym (has-listed names list signal word q place is)
+    ∙ has in
     rw (known, held) refl
 
 pub member-late : (names list : List (List ℕ)) (earlier : List ℕ) (signal : Signal) (word : List ℕ)
@@ -33,7 +34,8 @@ pub member-late : (names list : List (List ℕ)) (earlier : List ℕ) (signal : 
     → IsSignalOf names list signal → is_member signal.members q ≡ false
     → is_member earlier q ≡ false → member_word names earlier list word ≡ Some (fault NotMeasured)
 member-late names list earlier signal word q known place is has late =
-    let held : is_held list word ≡ false = sym (has-listed names list signal word q place is) ∙ has in
+    let held : is_held list word ≡ false = sym (has-listed names list signal word q place is)
+    ∙ has in
     let number : number_in names word ≡ q = rw place refl in
     rw (known, held, number, late) refl
 
@@ -41,7 +43,8 @@ earlier_joined : (earlier : List ℕ) (names list : List (List ℕ)) (signal sig
     → IsSignalOf names list signal → signal' ≡ signal_sum (signal_of q) signal
     → is_member earlier q ≡ true → IsEarlier earlier signal → IsEarlier earlier signal'
 earlier_joined earlier names list signal signal' q is sum done all k member =
-    let rising : IsRising signal.members = rw is.same (rising_where (is_member (map (number_in names) list)) (length names)) in
+    let rising : IsRising signal.members = rw is.same
+    (rising_where (is_member (map (number_in names) list)) (length names)) in
     let same : is_member signal'.members k ≡ (is_member signal.members k ⊻ nat_eq k q) =
     ap (λ (s : Signal). is_member s.members k) sum
     ∙ rw (toggled_all-single q signal.members) (is_member-toggled q signal.members k rising) in
@@ -63,7 +66,8 @@ member-taken names earlier signal signal' word q known place has done sum =
     sym (has-listed names list signal word q place is) ∙ has in
     record {
       clean = λ list is. rw (known, free list is, number, done) refl;
-      joined = λ list is. signal-joined names list signal signal' word q place is (free list is) sum;
+      joined = λ list is. signal-joined names list signal signal' word q place is (free list is)
+          sum;
       stays = λ list is all. earlier_joined earlier names list signal signal' q is sum done all;
     }
 

@@ -1,10 +1,10 @@
 -- The measured qubits in order, and their places.
-use Rattle.std.proofs.Common.{◌≡◌, map, ℕ, zero, suc, ◌+◌, ◌<◌, ◌≤◌, Bool, true, false, ◌&&◌, ◌||◌, List, [], ◌∷◌, ◌++◌, All, length, take, replicate, refl, sym, subst, ap, ◌∙◌, arith, nat_eq, nat_lt, Some, None, Option, get_or, slice_index_or, min, eq-eqb, ne_eqb}
-use Rattle.std.specs.List.{filter_map, list_any, AllByRecursion}
+use Rattle.std.proofs.Common.{◌≡◌, map, ℕ, zero, suc, ◌+◌, ◌<◌, ◌≤◌, Bool, true, false, ◌&&◌, ◌||◌, List, [], ◌∷◌, ◌++◌, All, length, take, replicate, refl, sym, ap, ◌∙◌, arith, nat_eq, nat_lt, get_or, slice_index_or, min, eq-eqb, ne_eqb}
+use Rattle.std.specs.List.{AllByRecursion}
 use Rattle.std.specs.Prelude.{set}
 use Rattle.std.proofs.lemmas.Bool.{cases_eq}
 use Rattle.std.proofs.lemmas.Bool.Decides.{nat_tests}
-use Rattle.std.proofs.lemmas.List.{get_or-set_same, get_or-set_other, length-set, get_or-replicate, take_all, append-nil}
+use Rattle.std.proofs.lemmas.List.{get_or-set_same, get_or-set_other, length-set, get_or-replicate}
 use Rattle.std.proofs.lemmas.List.Elements.{All-from_recursion, filter_map-append}
 use Rattle.std.proofs.lemmas.Option.{slice_get-get_or}
 use mathlib.Core.Logic.{inl, inr}
@@ -16,7 +16,7 @@ use Rattle.mc_pattern_text.specs.ChangePlaces.{ArePlaces}
 use Rattle.mc_pattern_text.specs.ChangeRows.{measured_order}
 use Rattle.mc_pattern_text.specs.Written.{AreNamed}
 use Rattle.mc_pattern_text.proofs.NamedCommands.{pattern_named}
-use Rattle.mc_pattern_text.proofs.Printing.{taken_more}
+use Rattle.mc_pattern_text.proofs.Parts.{taken_more}
 
 -- each measured qubit has a name
 order_named : (n : ℕ) (cs : List Command) → AreNamed n cs

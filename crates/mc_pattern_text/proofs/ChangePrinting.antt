@@ -1,10 +1,7 @@
 -- The canonical text of a change, part by part.
-use Rattle.std.proofs.Common.{◌≡◌, ℕ, zero, suc, ◌+◌, ◌<◌, ◌≤◌, Bool, true, false, ◌||◌, All, List, [], ◌∷◌, ◌++◌, length, map, take, get_or, codes, refl, sym, ap, ◌∙◌, append_assoc, arith, Some, None, slice_get, nat_eq}
-use Rattle.std.specs.List.{list_any, AllByRecursion}
-use Rattle.std.proofs.lemmas.Bool.{eq-eqb}
+use Rattle.std.proofs.Common.{◌≡◌, ℕ, zero, suc, ◌+◌, Bool, true, false, ◌||◌, List, [], ◌∷◌, ◌++◌, length, map, take, codes, refl, sym, ap, ◌∙◌, append_assoc, arith, Some, slice_get, nat_eq}
 use Rattle.std.proofs.lemmas.Grind.{flat_map-append}
-use Rattle.std.proofs.lemmas.List.{append-nil, map-append, length-map}
-use Rattle.std.proofs.lemmas.List.Elements.{All-from_recursion}
+use Rattle.std.proofs.lemmas.List.{append-nil, map-append}
 use Rattle.std.proofs.lemmas.Option.{slice_get_within, get_or_from_slice_get}
 use Rattle.mc_write.specs.Text.{line_text, text_of}
 use Rattle.mc_model.specs.Numbers.{is_member}
@@ -13,11 +10,13 @@ use Rattle.mc_model.specs.Shift.{ChangeRow}
 use Rattle.mc_model.specs.Valid.{IsValidPattern}
 use Rattle.mc_pattern.proofs.Members.{below_by}
 use Rattle.mc_pattern_text.specs.ChangeCanonical.{row_line, change_text}
-use Rattle.mc_pattern_text.specs.ChangeRows.{IsChangeOf, IsRowNamed, AreRowsNamed, measured_order, qubits_of}
+use Rattle.mc_pattern_text.specs.ChangeRows.{IsChangeOf, AreRowsNamed, measured_order}
 use Rattle.mc_pattern_text.proofs.ChangeOrder.{measured_named}
+use Rattle.mc_pattern_text.proofs.Parts.{below_all, get_map, taken_more}
 
 -- a member of the first numbers of a list is one of the list
-member_taken : (i : ℕ) (xs : List ℕ) (q : ℕ) → is_member (take i xs) q ≡ true → is_member xs q ≡ true
+member_taken : (i : ℕ) (xs : List ℕ) (q : ℕ) → is_member (take i xs) q ≡ true → is_member xs q
+    ≡ true
 member_taken zero xs q member = absurd (cc member)
 member_taken (suc i) [] q member = absurd (cc member)
 member_taken (suc i) (x ∷ xs) q member =
@@ -26,24 +25,6 @@ member_taken (suc i) (x ∷ xs) q member =
     either : (a b c : Bool) → (b ≡ true → c ≡ true) → (a || b) ≡ true → (a || c) ≡ true
     either true b c more e = refl
     either false b c more e = more e
-
-below_all : (n : ℕ) (qs : List ℕ) → ((q : ℕ) → is_member qs q ≡ true → q < n)
-    → AllByRecursion (λ (q : ℕ). q < n) qs
-below_all n [] below = tt
-below_all n (q ∷ qs) below = (
-  below q (rw (eq-eqb q q refl) refl),
-  below_all n qs (λ r member. below r (rw member (or_true (nat_eq r q)))),
-)
-  where
-    or_true : (b : Bool) → (b || true) ≡ true
-    or_true true = refl
-    or_true false = refl
-
-get_map : (f : ChangeRow → ℕ) (rows : List ChangeRow) (i : ℕ) (row : ChangeRow)
-    → slice_get rows i ≡ Some row → slice_get (map f rows) i ≡ Some (f row)
-get_map f [] i row e = absurd (cc e)
-get_map f (r ∷ rows) zero row e = let same : r ≡ row = cc e in ap (λ (x : ChangeRow). Some (f x)) same
-get_map f (r ∷ rows) (suc i) row e = get_map f rows i row e
 
 pub rows_named : (p : Pattern) (rows : List ChangeRow) → IsValidPattern p → IsChangeOf p rows
     → AreRowsNamed (length p.names) rows
@@ -57,20 +38,10 @@ rows_named p rows valid h i row get =
     let lt = named i 0 (slice_get_within order i row.qubit found) in
     record {
       qubit = omega (arith, at, lt);
-      members = All-from_recursion (λ (q : ℕ). q < length p.names) row.signal.members
-          (below_all (length p.names) row.signal.members (λ q member.
+      members = below_all (length p.names) row.signal.members (λ q member.
           below_by (length p.names) order q named
-          (member_taken i order q (h.earlier i row get q member))));
+          (member_taken i order q (h.earlier i row get q member)));
     }
-
--- the rows with one more
-rows_taken : (rows : List ChangeRow) (i : ℕ) (row : ChangeRow) → slice_get rows i ≡ Some row
-    → take (suc i) rows ≡ take i rows ++ row ∷ []
-rows_taken [] i row e = absurd (cc e)
-rows_taken (r ∷ rows) zero row e =
-    let same : r ≡ row = cc e in ap (λ (x : ChangeRow). x ∷ []) same
-rows_taken (r ∷ rows) (suc i) row e =
-    ap (λ (rs : List ChangeRow). r ∷ rs) (rows_taken rows i row e)
 
 pub rows_more : (start : List ℕ) (names : List (List ℕ)) (rows : List ChangeRow) (i : ℕ)
     (row : ChangeRow) → slice_get rows i ≡ Some row
@@ -81,7 +52,7 @@ rows_more start names rows i row e =
     let lines = map (row_line names) (take i rows) in
     append_assoc start (text_of lines) (line_text (row_line names row))
     ∙ ap (λ (bytes : List ℕ). start ++ bytes)
-    (sym (rw (next, rows_taken rows i row e, map-append (row_line names) (take i rows) (row ∷ []))
+    (sym (rw (next, taken_more rows i row e, map-append (row_line names) (take i rows) (row ∷ []))
     (flat_map-append line_text lines (row_line names row ∷ [])
     ∙ rw (append-nil (line_text (row_line names row))) refl)))
 
@@ -94,4 +65,5 @@ change_printed p rows headed with_rows whole header more end =
     let lines = map (row_line p.names) rows in
     let last = flat_map-append line_text lines ((codes "end" ∷ []) ∷ []) in
     rw (end, more, header, last)
-    (append_assoc (line_text (codes "change" ∷ codes "1" ∷ [])) (text_of lines) (line_text (codes "end" ∷ [])))
+    (append_assoc (line_text (codes "change" ∷ codes "1" ∷ [])) (text_of lines)
+    (line_text (codes "end" ∷ [])))

@@ -1,43 +1,38 @@
 -- The canonical text of a change is read without a fault, as that change.
-use Rattle.std.proofs.Common.{◌≡◌, ℕ, zero, suc, ◌+◌, ◌<◌, ◌≤◌, Bool, true, false, not, ◌&&◌, ◌||◌, All, List, [], ◌∷◌, ◌++◌, length, map, take, codes, refl, sym, subst, ap, ◌∙◌, append_assoc, length-append, arith, eq-eqb, ne_eqb, nat_eq, nat_lt, nat_le, Option, Some, None, slice_get}
-use Rattle.std.specs.List.{filter_map, list_all, IsDistinct}
+use Rattle.std.proofs.Common.{◌≡◌, ℕ, zero, suc, ◌+◌, ◌<◌, true, false, All, List, [], ◌∷◌, ◌++◌, length, map, take, codes, refl, sym, ap, ◌∙◌, append_assoc, length-append, arith, eq-eqb, ne_eqb, nat_eq, nat_lt, Some, slice_get}
+use Rattle.std.specs.List.{filter_map, list_all}
 use Rattle.std.proofs.lemmas.Bool.Decides.{nat_tests}
 use Rattle.std.proofs.lemmas.List.{map-append, append-nil, length-map}
 use Rattle.std.proofs.lemmas.List.Elements.{filter_map-append}
 use Rattle.std.proofs.lemmas.List.Folds.{list_all-append}
-use Rattle.std.proofs.lemmas.Option.{slice_get_within, get_or_from_slice_get}
-use Rattle.mc_lex.specs.Lines.{lines_of, end_of}
+use Rattle.mc_lex.specs.Lines.{end_of}
 use Rattle.mc_write.specs.Named.{name_at}
-use Rattle.mc_model.specs.Names.{Name, AreNames, name_eq, is_name, is_held}
+use Rattle.mc_model.specs.Names.{Name, AreNames}
 use Rattle.mc_model.specs.Numbers.{is_member}
 use Rattle.mc_model.specs.Pattern.{Pattern}
-use Rattle.mc_model.specs.Signals.{Signal, IsRising}
+use Rattle.mc_model.specs.Signals.{IsRising}
 use Rattle.mc_model.specs.Shift.{ChangeRow}
 use Rattle.mc_model.specs.Valid.{IsValidPattern}
 use Rattle.mc_pattern.proofs.Members.{below_by}
 use Rattle.mc_pattern.specs.Typed.{IsPlain}
-use Rattle.mc_text.specs.declared.head.Head.{Head}
 use Rattle.mc_text.specs.declared.head.Head.TheVariants.{O, End}
-use Rattle.mc_text.specs.Heads.{head_of, head_in}
 use Rattle.mc_text.specs.Points.{point_of, last_head}
-use Rattle.mc_text.specs.Judged.{Words, Lines, Rules, section_lines}
-use Rattle.mc_text.specs.Rules.{number_in}
+use Rattle.mc_text.specs.Judged.{Words, Lines, section_lines}
 use Rattle.mc_text.proofs.Going.{head_at}
 use Rattle.mc_text.proofs.Kept.{count_at}
 use Rattle.mc_text.proofs.Clean.{CleanWords, Clean, last, more, IsRead, written_read}
 use Rattle.mc_text.proofs.Naming.{number-name_at, held-name_at, is_name-name_at, name_written}
-use Rattle.mc_text.proofs.Written.{is_written, is_written_line}
+use Rattle.mc_text.proofs.Written.{is_written_line}
 use Rattle.mc_pattern_text.specs.Canonical.{behind_header}
 use Rattle.mc_pattern_text.specs.ChangeRoles.{may_follow, role_of, member}
 use Rattle.mc_pattern_text.specs.ChangeRows.{IsChangeOf, IsRowNamed, AllPlain, measured_order, qubits_of}
 use Rattle.mc_pattern_text.specs.ChangeValue.{spelled_row, spelled_rows, row_by, rows_of}
-use Rattle.mc_pattern_text.specs.ChangeJudge.{judge_by, lacks_by, members_in, rules_by, change_rules}
+use Rattle.mc_pattern_text.specs.ChangeJudge.{rules_by, change_rules}
 use Rattle.mc_pattern_text.specs.ChangeCanonical.{row_line, change_lines, change_text}
 use Rattle.mc_pattern_text.specs.ChangeKept.{IsEarlier}
-use Rattle.mc_pattern_text.proofs.NamedSignals.{signal_back, member_free}
-use Rattle.mc_pattern_text.proofs.ChangeKeeping.{last_head-line}
-use Rattle.mc_pattern_text.proofs.ChangeOrder.{measured_named}
+use Rattle.mc_pattern_text.proofs.NamedSignals.{signal_back, member_free, names_written}
 use Rattle.mc_pattern_text.proofs.ChangePrinting.{rows_named}
+use Rattle.mc_pattern_text.proofs.Parts.{among, get_map, last_head-line, or_right}
 
 -- a row that may stand at a place
 record IsRowAt (names : List Name) (order : List ℕ) (i : ℕ) (row : ChangeRow) : Type 0 where
@@ -63,15 +58,17 @@ member_role before w done =
     rw (some, head_at before (codes "o" ∷ w ∷ done), many) refl
 
 -- the members of a row
-members_clean : (names : List Name) (order : List ℕ) (before : Lines) (w : List ℕ) (done qs : List ℕ)
+members_clean : (names : List Name) (order : List ℕ) (before : Lines) (w : List ℕ)
+    (done qs : List ℕ)
     → AreNames names → All (λ q. q < length names) (done ++ qs) → IsRising (done ++ qs)
-    → ((q : ℕ) → is_member qs q ≡ true → is_member (take (length (spelled_rows before)) order) q ≡ true)
+    → ((q : ℕ) → is_member qs q ≡ true → is_member (take (length (spelled_rows before)) order) q
+    ≡ true)
     → CleanWords (rules_by names order) before (codes "o" ∷ w ∷ map (name_at names) done)
     (map (name_at names) qs)
 members_clean names order before w done [] valid below rising early =
     rw (member_role before w (map (name_at names) done)) refl
 members_clean names order before w done (q ∷ qs) valid below rising early =
-    let lt = below_by (length names) (done ++ q ∷ qs) q below (among done) in
+    let lt = below_by (length names) (done ++ q ∷ qs) q below (among done q qs) in
     let role = member_role before w (map (name_at names) done) in
     let named = is_name-name_at names q valid lt in
     let held = held-name_at names q valid.distinct lt in
@@ -80,22 +77,10 @@ members_clean names order before w done (q ∷ qs) valid below rising early =
     let measured = early q (rw (eq-eqb q q refl) refl) in
     let next : (done ++ q ∷ []) ++ qs ≡ done ++ (q ∷ qs) = append_assoc done (q ∷ []) qs in
     let rest = members_clean names order before w (done ++ q ∷ []) qs valid (rw next below)
-    (rw next rising) (λ r is. early r (rw is (or_true (nat_eq r q)))) in (
+    (rw next rising) (λ r is. early r (or_right (nat_eq r q) (is_member qs r) is)) in (
       rw (role, named, held, free, number, measured) refl,
       rw (map-append (name_at names) done (q ∷ [])) at rest,
     )
-  where
-    or_true : (b : Bool) → (b || true) ≡ true
-    or_true true = refl
-    or_true false = refl
-
-    or_last : (a b : Bool) → b ≡ true → (a || b) ≡ true
-    or_last true b e = refl
-    or_last false b e = e
-
-    among : (xs : List ℕ) → is_member (xs ++ q ∷ qs) q ≡ true
-    among [] = rw (eq-eqb q q refl) refl
-    among (x ∷ xs) = or_last (nat_eq q x) (is_member (xs ++ q ∷ qs) q) (among xs)
 
 row_clean : (names : List Name) (order : List ℕ) (before : Lines) (i : ℕ) (row : ChangeRow)
     → AreNames names → AreBefore before i → IsRowAt names order i row
@@ -156,20 +141,14 @@ plain_at [] i row plain e = absurd (cc e)
 plain_at (r ∷ rows) zero row plain e = let same : r ≡ row = cc e in rw (← same) plain.0
 plain_at (r ∷ rows) (suc i) row plain e = plain_at rows i row plain.1 e
 
-get_qubit : (rows : List ChangeRow) (i : ℕ) (row : ChangeRow) → slice_get rows i ≡ Some row
-    → slice_get (qubits_of rows) i ≡ Some row.qubit
-get_qubit [] i row e = absurd (cc e)
-get_qubit (r ∷ rows) zero row e =
-    let same : r ≡ row = cc e in ap (λ (x : ChangeRow). Some x.qubit) same
-get_qubit (r ∷ rows) (suc i) row e = get_qubit rows i row e
-
 rows_fit : (p : Pattern) (rows : List ChangeRow) → IsValidPattern p → IsChangeOf p rows
     → AllPlain rows → (i : ℕ) (row : ChangeRow) → slice_get rows i ≡ Some row
     → IsRowAt p.names (measured_order p.commands) i row
 rows_fit p rows valid h plain i row get =
     let named = rows_named p rows valid h i row get in
     record {
-      next = ap (λ (qs : List ℕ). slice_get qs i) (sym h.qubits) ∙ get_qubit rows i row get;
+      next = ap (λ (qs : List ℕ). slice_get qs i) (sym h.qubits)
+          ∙ get_map (λ (r : ChangeRow). r.qubit) rows i row get;
       earlier = h.earlier i row get;
       plain = plain_at rows i row plain get;
       qubit = named.qubit;
@@ -189,15 +168,6 @@ change_clean p rows valid h plain =
     let place : 0 + i ≡ i = omega arith in rw place (rows_fit p rows valid h plain i row get))
 
 -- the canonical lines can be written
-names_written : (names : List Name) (qs : List ℕ) → AreNames names → All (λ q. q < length names) qs
-    → list_all is_written (map (name_at names) qs) ≡ true
-names_written names [] valid below = refl
-names_written names (q ∷ qs) valid below =
-    let lt : q < length names = below 0 q (omega arith) in
-    let name = name_written (name_at names q) (is_name-name_at names q valid lt) in
-    let rest = names_written names qs valid (λ k d l. below (suc k) d (omega arith)) in
-    rw (name, rest) refl
-
 rows_written : (names : List Name) (rows : List ChangeRow) → AreNames names
     → ((i : ℕ) (row : ChangeRow) → slice_get rows i ≡ Some row → IsRowNamed (length names) row)
     → list_all is_written_line (map (row_line names) rows) ≡ true
@@ -211,10 +181,14 @@ rows_written names (row ∷ rows) valid named =
     rw (name, members, rest) refl
 
 change_written : (p : Pattern) (rows : List ChangeRow) → IsValidPattern p → IsChangeOf p rows
-    → list_all is_written_line ((codes "change" ∷ codes "1" ∷ []) ∷ change_lines p.names rows) ≡ true
+    → list_all is_written_line ((codes "change" ∷ codes "1" ∷ []) ∷ change_lines p.names rows)
+    ≡ true
 change_written p rows valid h =
     let all = rows_written p.names rows valid.names (rows_named p rows valid h) in
-    rw (list_all-append is_written_line (map (row_line p.names) rows) ((codes "end" ∷ []) ∷ []), all)
+    rw (
+      list_all-append is_written_line (map (row_line p.names) rows) ((codes "end" ∷ []) ∷ []),
+      all,
+    )
     refl
 
 -- the change that the canonical lines spell
@@ -225,11 +199,9 @@ spelled_back names [] valid plain named = refl
 spelled_back names (row ∷ rows) valid plain named =
     let first = named 0 row refl in
     let number = number-name_at names row.qubit valid.distinct first.qubit in
-    let signal = signal_back names row.signal.members valid.distinct plain.0.is_set first.members in
+    let signal = signal_back names row.signal valid.distinct plain.0 first.members in
     let rest = spelled_back names rows valid plain.1 (λ i r get. named (suc i) r get) in
-    let same : record { members = row.signal.members; constant = false } ≡ row.signal =
-    ap (λ (b : Bool). record { members = row.signal.members; constant = b }) (sym plain.0.no_constant) in
-    rw (number, signal, same, rest) refl
+    rw (number, signal, rest) refl
 
 change_back : (p : Pattern) (rows : List ChangeRow) → IsValidPattern p → IsChangeOf p rows
     → AllPlain rows → rows_of p.names (change_lines p.names rows) ≡ rows
@@ -244,7 +216,8 @@ pub change_read : (p : Pattern) (rows : List ChangeRow) → IsValidPattern p →
     (behind_header (change_text p rows)) (end_of (change_text p rows))
 change_read p rows valid h plain =
     written_read (change_rules p) (codes "change" ∷ codes "1" ∷ []) (change_lines p.names rows)
-    (end_of (change_text p rows)) (change_written p rows valid h) (change_clean p rows valid h plain)
+    (end_of (change_text p rows)) (change_written p rows valid h)
+    (change_clean p rows valid h plain)
 
 pub change_text_back : (p : Pattern) (rows : List ChangeRow) → IsValidPattern p → IsChangeOf p rows
     → AllPlain rows → rows_of p.names (section_lines (behind_header (change_text p rows))) ≡ rows

@@ -1,5 +1,5 @@
 -- What is kept at the end is the change that the lines spell.
-use Rattle.std.proofs.Common.{◌≡◌, ℕ, ◌<◌, ◌≤◌, List, [], ◌∷◌, Bool, true, false, not, ◌&&◌, Option, Some, None, length, take, map, refl, sym, ap, ◌∙◌, arith, nat_lt, slice_get, if◌then◌else◌}
+use Rattle.std.proofs.Common.{◌≡◌, ℕ, List, [], ◌∷◌, Bool, true, false, not, ◌&&◌, Option, Some, None, length, take, refl, ◌∙◌, nat_lt, slice_get, if◌then◌else◌}
 use Rattle.std.proofs.lemmas.List.{take_all}
 use Rattle.mc_model.specs.Names.{is_name, is_held}
 use Rattle.mc_model.specs.Numbers.{is_member}
@@ -10,12 +10,12 @@ use Rattle.mc_text.specs.declared.fault.Fault.{Fault}
 use Rattle.mc_text.specs.declared.fault.Fault.TheVariants.{NotFixed, Surplus, NotName, NotDefined, ListedTwice, NotMeasured, OtherRow}
 use Rattle.mc_text.specs.Heads.{head_of, is_end}
 use Rattle.mc_text.specs.Points.{point_of, last_head}
-use Rattle.mc_text.specs.Judged.{Judgement, fault, limit, Lines}
+use Rattle.mc_text.specs.Judged.{Judgement, fault, Lines}
 use Rattle.mc_text.specs.Rules.{broken, or_next, known_name, listed_name, number_in}
 use Rattle.mc_pattern_text.specs.declared.change_reader.ChangeReader.{ChangeReader}
 use Rattle.mc_pattern_text.specs.ChangeRoles.{ChangeRole, record_word, subject, member, surplus, may_follow, role_of}
 use Rattle.mc_pattern_text.specs.ChangeRows.{IsChangeOf, measured_order}
-use Rattle.mc_pattern_text.specs.ChangeJudge.{judge_by, lacks_by, change_rules, rules_by, is_this, member_word, subject_word, members_in}
+use Rattle.mc_pattern_text.specs.ChangeJudge.{judge_by, lacks_by, rules_by, is_this, members_in}
 use Rattle.mc_pattern_text.specs.ChangeValue.{spelled_rows}
 use Rattle.mc_pattern_text.specs.ChangeKept.{IsChangeKept}
 use Rattle.mc_pattern_text.proofs.NoLimits.{IsFault, HasNoLimits}
@@ -60,7 +60,8 @@ judge_fault names order rows list last member word =
     let twice = (is_held list word, ListedTwice) ∷ [] in
     let late = (not (is_member (take rows order) (number_in names word)), NotMeasured) ∷ [] in
     next_fault (listed_name names list word) (broken late)
-    (next_fault (known_name names word) (broken twice) (known_fault names word) (broken_fault twice))
+    (next_fault (known_name names word) (broken twice) (known_fault names word)
+    (broken_fault twice))
     (broken_fault late)
 judge_fault names order rows list last surplus word = broken_fault ((true, Surplus) ∷ [])
 

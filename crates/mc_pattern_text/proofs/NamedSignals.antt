@@ -1,25 +1,28 @@
 -- Signals by the names of their members.
-use Rattle.std.proofs.Common.{◌≡◌, ℕ, ◌<◌, ◌≤◌, Bool, true, false, not, ◌&&◌, ◌||◌, List, [], ◌∷◌, ◌++◌, map, length, refl, sym, ap, ◌∙◌, arith, length-append, nat_eq, nat_lt, ne_eqb, eq-eqb, Some, None, All, suc}
+use Rattle.std.proofs.Common.{◌≡◌, ℕ, ◌<◌, Bool, true, false, ◌&&◌, ◌||◌, List, [], ◌∷◌, ◌++◌, map, length, refl, sym, ap, ◌∙◌, arith, nat_eq, nat_lt, ne_eqb, Some, All, suc}
 use Rattle.std.specs.List.{list_any, list_all}
 use Rattle.std.proofs.lemmas.Bool.Decides.{nat_tests}
-use Rattle.std.proofs.lemmas.List.{map-append, get_or_append_left}
+use Rattle.std.proofs.lemmas.List.{map-append}
 use Rattle.std.proofs.lemmas.List.Folds.{list_any-append, list_all-append}
 use Rattle.std.proofs.lemmas.List.Quantifiers.{position-Some}
 use Rattle.std.specs.List.{IsDistinct}
 use mathlib.Core.Path.{fun_ext}
 use Rattle.mc_model.specs.Bits.{◌⊻◌}
-use Rattle.mc_model.specs.Names.{name_eq, is_held, place_of}
+use Rattle.mc_model.specs.Names.{AreNames, name_eq, is_held, place_of}
 use Rattle.mc_model.specs.Numbers.{is_member, numbers_where}
-use Rattle.mc_model.specs.Signals.{Signal, signal_of, signal_sum, toggled, IsRising, AllAbove}
+use Rattle.mc_model.specs.Signals.{Signal, signal_of, signal_sum, IsRising, AllAbove}
 use Rattle.mc_pattern.proofs.Members.{below_by}
 use Rattle.mc_write.specs.Named.{name_at}
 use Rattle.mc_signal.proofs.Members.{toggled_all-single}
 use Rattle.mc_text.specs.Rules.{number_in}
 use Rattle.mc_text.proofs.Numbers.{held-place, listed-number}
-use Rattle.mc_text.proofs.Naming.{numbers-name_at, place-name_at}
+use Rattle.mc_text.proofs.Naming.{numbers-name_at, place-name_at, is_name-name_at, name_written}
+use Rattle.mc_text.proofs.Written.{is_written}
+use Rattle.mc_pattern.specs.Typed.{IsPlain}
 use Rattle.mc_pattern_text.specs.Value.{signal_by}
 use Rattle.mc_pattern_text.specs.ChangeKept.{IsSignalOf}
 use Rattle.mc_pattern_text.proofs.RisingSets.{member_where, same_where, toggled_where, where_members}
+use Rattle.mc_pattern_text.proofs.Parts.{all_front, among}
 
 pub place_below : (names : List (List ℕ)) (word : List ℕ) (q : ℕ) → place_of names word ≡ Some q
     → q < length names
@@ -50,7 +53,8 @@ has-listed names list signal word q place is =
     let numbers = map (number_in names) list in
     ap (λ (s : Signal). is_member s.members q) is.same
     ∙ member_where (is_member numbers) (length names) q
-    ∙ rw (below_test q (length names) (place_below names word q place)) (and_true (is_member numbers q))
+    ∙ rw (below_test q (length names) (place_below names word q place))
+    (and_true (is_member numbers q))
     ∙ member-listed names list word q place is.held
 
 -- one more member
@@ -64,10 +68,12 @@ signal-joined names list signal signal' word q place is free sum =
     let numbers = map (number_in names) list in
     let number : number_in names word ≡ q = rw place refl in
     let lt = place_below names word q place in
-    let absent : is_member numbers q ≡ false = member-listed names list word q place is.held ∙ free in
+    let absent : is_member numbers q ≡ false = member-listed names list word q place is.held
+    ∙ free in
     let all : map (number_in names) (list ++ word ∷ []) ≡ numbers ++ q ∷ [] =
     map-append (number_in names) list (word ∷ []) ∙ rw number refl in
-    let tests : (k : ℕ) → (is_member numbers k ⊻ nat_eq k q) ≡ is_member (numbers ++ q ∷ []) k = λ k.
+    let tests : (k : ℕ) → (is_member numbers k ⊻ nat_eq k q)
+    ≡ is_member (numbers ++ q ∷ []) k = λ k.
     or_last (is_member numbers k) (nat_eq k q) (λ e. other k e absent)
     ∙ sym (list_any-append (nat_eq k) numbers (q ∷ [])) in
     let held = held-place names word q place in
@@ -90,22 +96,31 @@ signal-joined names list signal signal' word q place is free sum =
         → is_member (map (number_in names) list) k ≡ false
     other k e absent = let same : k ≡ q = grind (arith, nat_tests) in rw same absent
 
--- the signal of the names that are written for its members
-pub signal_back : (names : List (List ℕ)) (qs : List ℕ) → IsDistinct name_eq names → IsRising qs
-    → All (λ q. q < length names) qs
-    → signal_by names (map (name_at names) qs) ≡ record { members = qs; constant = false }
-signal_back names qs distinct rising below =
+-- the names that are written for the members of a signal
+pub names_written : (names : List (List ℕ)) (qs : List ℕ) → AreNames names
+    → All (λ q. q < length names) qs → list_all is_written (map (name_at names) qs) ≡ true
+names_written names [] valid below = refl
+names_written names (q ∷ qs) valid below =
+    let lt : q < length names = below 0 q (omega arith) in
+    let name = name_written (name_at names q) (is_name-name_at names q valid lt) in
+    let rest = names_written names qs valid (λ k d l. below (suc k) d (omega arith)) in
+    rw (name, rest) refl
+
+-- are read back as the signal
+pub signal_back : (names : List (List ℕ)) (signal : Signal) → IsDistinct name_eq names
+    → IsPlain signal → All (λ q. q < length names) signal.members
+    → signal_by names (map (name_at names) signal.members) ≡ signal
+signal_back names signal distinct plain below =
+    let qs = signal.members in
     let are = numbers-name_at names qs distinct below in
-    let same : numbers_where (is_member (map (number_in names) (map (name_at names) qs))) (length names)
+    let same : numbers_where (is_member (map (number_in names) (map (name_at names) qs)))
+    (length names)
     ≡ qs =
     rw (← are.numbers_are)
-    (where_members qs (length names) rising (λ k member. below_by (length names) qs k below member)) in
+    (where_members qs (length names) plain.is_set
+    (λ k member. below_by (length names) qs k below member)) in
     ap (λ (members : List ℕ). record { members = members; constant = false }) same
-
-all_front : (n : ℕ) (xs ys : List ℕ) → All (λ q. q < n) (xs ++ ys) → All (λ q. q < n) xs
-all_front n xs ys below k d lt =
-    let len = length-append xs ys in
-    rw (← get_or_append_left xs ys d k lt) (below k d (omega arith))
+    ∙ ap (λ (b : Bool). record { members = qs; constant = b }) (sym plain.no_constant)
 
 -- a member is not among those that are written before it
 rising_apart : (done : List ℕ) (q : ℕ) (qs : List ℕ) → IsRising (done ++ q ∷ qs)
@@ -125,16 +140,8 @@ pub member_free : (names : List (List ℕ)) (done : List ℕ) (q : ℕ) (qs : Li
     → IsRising (done ++ q ∷ qs)
     → is_held (map (name_at names) done) (name_at names q) ≡ false
 member_free names done q qs distinct below rising =
-    let lt = below_by (length names) (done ++ q ∷ qs) q below (among done) in
+    let lt = below_by (length names) (done ++ q ∷ qs) q below (among done q qs) in
     let are = numbers-name_at names done distinct (all_front (length names) done (q ∷ qs) below) in
     let place = place-name_at names q distinct lt in
     sym (member-listed names (map (name_at names) done) (name_at names q) q place are.held)
     ∙ rw (← are.numbers_are) (rising_apart done q qs rising)
-  where
-    or_true : (a b : Bool) → b ≡ true → (a || b) ≡ true
-    or_true true b e = refl
-    or_true false b e = e
-
-    among : (xs : List ℕ) → is_member (xs ++ q ∷ qs) q ≡ true
-    among [] = rw (eq-eqb q q refl) refl
-    among (x ∷ xs) = or_true (nat_eq q x) (is_member (xs ++ q ∷ qs) q) (among xs)

@@ -1,17 +1,17 @@
 -- Sections in which no limit can be passed.
-use Rattle.std.proofs.Common.{◌≡◌, ℕ, List, [], ◌∷◌, ◌++◌, Bool, true, false, Option, Some, None, refl, sym, ◌∙◌, if◌then◌else◌}
+use Rattle.std.proofs.Common.{◌≡◌, ℕ, List, [], ◌∷◌, ◌++◌, Bool, true, false, Option, Some, None, refl, if◌then◌else◌}
 use Rattle.mc_lex.specs.declared.end.TextEnd.TheVariants as end
 use Rattle.mc_lex.specs.Lines.{Item, word, bad, Line}
-use Rattle.mc_text.specs.declared.fault.Fault.{Fault}
 use Rattle.mc_text.specs.Judged.{Judgement, fault, limit, Place, Words, Lines, Rules, placed, or_later, first_in_line, first_in_section, is_last, words_of}
-use Rattle.mc_text.specs.Stops.{IsEnd, answer, answered}
+use Rattle.mc_text.specs.Stops.{IsEnd, answered}
 
 abbrev pub IsFault : Option Judgement → Type 0
 IsFault judged = (which found : ℕ) → judged ≡ Some (limit which found) → ⊥
 
 -- what is judged is never a limit
 pub record HasNoLimits (rules : Rules) : Type 0 where
-  pub judge : (before : Lines) (here : Words) (word : List ℕ) → IsFault (rules.judge before here word)
+  pub judge : (before : Lines) (here : Words) (word : List ℕ)
+      → IsFault (rules.judge before here word)
   pub lacks : (before : Lines) (here : Words) → IsFault (rules.lacks before here)
 
 abbrev judged_first : Option (Judgement × Place) → Option Judgement
@@ -48,10 +48,13 @@ section_fault rules before [] last free = λ which found e. absurd (cc e)
 section_fault rules before (line ∷ lines) last free =
     later_fault (first_in_line rules before [] line.items line.lack) _
     (line_fault rules before [] line.items line.lack free)
-    (behind (is_last line) (section_fault rules (before ++ words_of line.items ∷ []) lines last free))
+    (behind (is_last line)
+    (section_fault rules (before ++ words_of line.items ∷ []) lines last free))
   where
-    behind : (t : Bool) → IsFirstFault (first_in_section rules (before ++ words_of line.items ∷ []) lines last)
-        → IsFirstFault (if t then None else first_in_section rules (before ++ words_of line.items ∷ []) lines last)
+    behind : (t : Bool)
+        → IsFirstFault (first_in_section rules (before ++ words_of line.items ∷ []) lines last)
+        → IsFirstFault
+        (if t then None else first_in_section rules (before ++ words_of line.items ∷ []) lines last)
     behind true rest = λ which found e. absurd (cc e)
     behind false rest = rest
 

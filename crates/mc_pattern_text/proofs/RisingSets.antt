@@ -1,7 +1,7 @@
 -- Sets of numbers as rising lists.
-use Rattle.std.proofs.Common.{◌≡◌, ℕ, zero, suc, ◌+◌, ◌<◌, ◌≤◌, Bool, true, false, ◌&&◌, ◌||◌, List, [], ◌∷◌, length, refl, sym, ap, ap₂, ◌∙◌, arith, nat_eq, nat_lt, nat_le, All}
-use Rattle.std.specs.List.{filter, list_any}
-use Rattle.std.proofs.lemmas.Bool.{eq-eqb, ne_eqb, cases_Bool, cases_order, false≢true}
+use Rattle.std.proofs.Common.{◌≡◌, ℕ, zero, suc, ◌+◌, ◌<◌, Bool, true, false, ◌&&◌, ◌||◌, List, [], ◌∷◌, refl, sym, ap, ap₂, ◌∙◌, arith, nat_eq, nat_lt, nat_le}
+use Rattle.std.specs.List.{filter}
+use Rattle.std.proofs.lemmas.Bool.{eq-eqb, cases_Bool, cases_order, false≢true}
 use Rattle.std.proofs.lemmas.Bool.Decides.{nat_tests}
 use mathlib.Core.Logic.{inl, inr}
 use mathlib.Core.Path.{fun_ext}
@@ -56,7 +56,8 @@ member_from p q (suc n) k =
         ≡ (nat_eq k q && p q || p k && (nat_le (suc q) k && nat_lt k (suc q + n)))
     first rest true e =
         rw (e, rest)
-        (ap (λ (b : Bool). b || (p k && (nat_le (suc q) k && nat_lt k (suc q + n)))) (and_true (nat_eq k q)))
+        (ap (λ (b : Bool). b || (p k && (nat_le (suc q) k && nat_lt k (suc q + n))))
+        (and_true (nat_eq k q)))
     first rest false e =
         rw (e, rest) (and_false (nat_eq k q) (p k && (nat_le (suc q) k && nat_lt k (suc q + n))))
 
@@ -66,7 +67,8 @@ below_all b n k = grind (arith, nat_tests)
 pub member_where : (p : Bits) (n k : ℕ) → is_member (numbers_where p n) k ≡ (p k && nat_lt k n)
 member_where p n k = member_from p 0 n k ∙ below_all (p k) n k
 
-pub same_where : (p q : Bits) (n : ℕ) → ((k : ℕ) → p k ≡ q k) → numbers_where p n ≡ numbers_where q n
+pub same_where : (p q : Bits) (n : ℕ) → ((k : ℕ) → p k ≡ q k) → numbers_where p n
+    ≡ numbers_where q n
 same_where p q n same = ap (λ (r : Bits). numbers_where r n) (fun_ext same)
 
 -- a rising list is determined by its members
@@ -128,7 +130,8 @@ whole_where b t below = grind arith
 pub where_members : (qs : List ℕ) (n : ℕ) → IsRising qs
     → ((k : ℕ) → is_member qs k ≡ true → k < n) → numbers_where (is_member qs) n ≡ qs
 where_members qs n rising below =
-    sym (same_members qs (numbers_where (is_member qs) n) rising (rising_where (is_member qs) n) (λ k.
+    sym (same_members qs (numbers_where (is_member qs) n) rising (rising_where (is_member qs) n)
+    (λ k.
     whole_where (is_member qs k) (nat_lt k n) (λ e. lt_test k (below k e))
     ∙ sym (member_where (is_member qs) n k)))
   where

@@ -1,5 +1,5 @@
 -- The change that lines spell, by filters and maps over them.
-use Rattle.std.specs.Prelude.{ℕ, List, [], ◌∷◌, map, filter_map, if◌then◌else◌, Option, None, Some}
+use Rattle.std.specs.Prelude.{ℕ, List, ◌∷◌, map, filter_map, if◌then◌else◌, Option, None, Some}
 use Rattle.mc_model.specs.Shift.{ChangeRow}
 use Rattle.mc_text.specs.Heads.{head_of}
 use Rattle.mc_text.specs.Judged.{Words, Lines}

@@ -12,3 +12,4 @@ pub mod ChangeJudge
 pub mod ChangePlaces
 pub mod ChangeKept
 pub mod ChangeCanonical
+pub mod ChangeSamples

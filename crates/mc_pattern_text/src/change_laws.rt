@@ -15,7 +15,8 @@ ghost use Rattle.mc_pattern_text.specs.ChangeCanonical.{change_text};
 /// Reading behind a pattern takes the whole canonical text of a change of its outcomes and gives the change back.
 pub fn change_texts_are_read()
     ensures clean { (p : Pattern) (rows : List ChangeRow) → IsValidPattern p → IsChangeOf p rows → AllPlain rows
-        → first_in_section (change_rules p) [] (behind_header (change_text p rows)) (end_of (change_text p rows)) ≡ None }
+        → first_in_section (change_rules p) [] (behind_header (change_text p rows)) (end_of (change_text p rows))
+        ≡ None }
     ensures whole { (p : Pattern) (rows : List ChangeRow) → IsValidPattern p → IsChangeOf p rows → AllPlain rows
         → behind_section (behind_header (change_text p rows)) ≡ [] }
     ensures same { (p : Pattern) (rows : List ChangeRow) → IsValidPattern p → IsChangeOf p rows → AllPlain rows

@@ -15,8 +15,8 @@ use mc_pattern::{Change, Pattern};
 use mc_text::read_section;
 use std::alloc::Global;
 
-/// Reads the lines of a change of a pattern's outcomes behind its header, through its `end`. `Refused` is the first fault,
-/// and no limit can be passed; the words then stand somewhere in the text.
+/// Reads the lines of a change of a pattern's outcomes behind its header, through its `end`. `Refused` is the first
+/// fault, and no limit can be passed; the words then stand somewhere in the text.
 pub fn read_change<const H: usize>(
     alloc: Global,
     words: &mut Words<'_>,
@@ -28,7 +28,8 @@ pub fn read_change<const H: usize>(
     ensures behind { OnOk result (words.new.later ≡ behind_section words.old.later) }
     ensures whole { OnOk result (words.new.here ≡ []) }
     ensures further { IsFurther words.old words.new }
-    ensures err { IfErr result (λ end. IsEnd end (first_in_section (change_rules pattern.now) [] words.old.later words.old.last)) }
+    ensures err { IfErr result (λ end.
+        IsEnd end (first_in_section (change_rules pattern.now) [] words.old.later words.old.last)) }
     ensures no_limit { (which found : ℕ) → result ≡ Err (TextEnd.Limit which found) → ⊥ }
 {
     let names = pattern.names();

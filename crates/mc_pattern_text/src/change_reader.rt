@@ -1,7 +1,5 @@
 //! What a reader keeps of a change.
 
-ghost use Rattle.std.specs.Prelude.{◌≡◌, ◌≤◌, length};
-ghost use Rattle.mc_model.specs.Names.{AreNames};
 ghost use Rattle.mc_pattern_text.specs.ChangePlaces.{ArePlaces};
 
 use mc_names::Names;
@@ -9,8 +7,8 @@ use mc_pattern::Change;
 use mc_signal::Signal;
 use std::alloc::Global;
 
-/// What is kept of the lines of a change behind a pattern: the pattern's names, its measured qubits in order and the place of
-/// each qubit among them; the rows so far, and of the current line the qubit and the signal.
+/// What is kept of the lines of a change behind a pattern: the pattern's names, its measured qubits in order and the
+/// place of each qubit among them; the rows so far, and of the current line the qubit and the signal.
 #[derive(Drop)]
 pub(crate) struct ChangeReader<'p> {
     pub(crate) alloc: Global,

@@ -1,7 +1,6 @@
 //! The section of a change.
 
 ghost use Rattle.std.specs.Prelude.{◌≡◌, []};
-ghost use Rattle.mc_model.specs.Names.{AreNames};
 ghost use Rattle.mc_pattern_text.specs.ChangePlaces.{ArePlaces};
 ghost use Rattle.mc_pattern_text.specs.ChangeKept.{IsChangeKept};
 
@@ -14,8 +13,8 @@ use mc_text::{Point, Section, Stop};
 use std::alloc::Global;
 
 impl<'p> ChangeReader<'p> {
-    /// Before the first line, behind a pattern with these names and these measured qubits in order, each of which has its place
-    /// among `places`.
+    /// Before the first line, behind a pattern with these names and these measured qubits in order, of which `places`
+    /// tells the places.
     pub(crate) fn new(
         alloc: Global,
         names: &'p Names,

@@ -126,7 +126,8 @@ pub(crate) fn take_in_row(
     ensures ok { OnOk result (RowMoves kept.old kept.new point word.now) }
     ensures err { IfErr result (λ stop. (list : List (List ℕ)) → length kept.old.rows ≤ length kept.old.order.items
         → IsSignalOf kept.old.names.now list kept.old.signal
-        → IsStop stop (judge_by kept.old.names.now kept.old.order.items (length kept.old.rows) list point.last (role_of point) word.now)) }
+        → IsStop stop (judge_by kept.old.names.now kept.old.order.items (length kept.old.rows) list point.last
+        (role_of point) word.now)) }
 {
     let rows = kept.rows.len();
     if point.count == 0 {

@@ -32,6 +32,8 @@ fn with_three(rt: &impl Abort, alloc: Global) -> Result<Pattern<4>, Fail> {
 
 #[test]
 fn laws_hold() {
+    canonical_texts_are_read::<4>();
+    canonical_texts_differ::<4>();
     change_texts_are_read();
     change_texts_differ();
 }

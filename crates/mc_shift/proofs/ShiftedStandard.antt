@@ -14,7 +14,8 @@ use Rattle.mc_pattern.specs.Typed.{IsPlain, AllTyped}
 use Rattle.mc_standard.specs.Parts.{IsStandardForm, IsInParts, entanglings_of, measurements_of, corrections_of, with_signals}
 use Rattle.mc_standard.proofs.RunningSums.{WellMade, InPlace, same_signals}
 use Rattle.mc_standard.proofs.InPlaceLemmas.{valid_in_place}
-use Rattle.mc_standard.proofs.Settles.{IsTidy, Follows, FirstFollows, IsSettled, improves_or_settled}
+use Rattle.mc_standard.specs.Settled.{IsTidy, Follows, FirstFollows, IsSettled}
+use Rattle.mc_standard.proofs.Settles.{improves_or_settled}
 use Rattle.mc_standard.proofs.SettledForm.{settled_is_standard}
 use Rattle.mc_standard.proofs.Derives.{standard_stays}
 use Rattle.mc_standard.proofs.InParts.{part_of_all}

@@ -1,5 +1,4 @@
-use Rattle.std.proofs.Common.{◌∙◌, ap, ◌++◌}
-use Rattle.mc_pattern_text.proofs.ChangePrinting.{rows_named, change_printed}
+use Rattle.mc_pattern_text.proofs.ChangePrinting.{rows_named}
 use Rattle.mc_pattern_text.proofs.change_print.print_change.Goals as goal
 
 pub print_rows-requires : goal.print_rows-requires

@@ -10,4 +10,5 @@ rows-preserved c =
     let row : ChangeRow = record { qubit = c.row-q.result.0; signal = c.row-q.result.1.now } in
     c.in_ok-print_row.ensures
     ∙ ap (λ bytes. bytes ++ line_text (row_line c.args.names.now row)) c.rows.invariant
-    ∙ rows_more c.args.text.now.items c.args.names.now c.args.change.now c.rows.i row c.row-q.ensures
+    ∙ rows_more c.args.text.now.items c.args.names.now c.args.change.now c.rows.i row
+    c.row-q.ensures

@@ -1,4 +1,4 @@
-use Rattle.std.proofs.Common.{◌≡◌, ◌≤◌, ◌<◌, All, ap, ◌∙◌, sym, arith, length, Err, ◌∷◌, []}
+use Rattle.std.proofs.Common.{◌≡◌, ◌<◌, All, ap, ◌∙◌, arith, length, []}
 use Rattle.mc_lex.specs.declared.end.TextEnd.TheVariants.{Limit}
 use Rattle.mc_text.specs.Judged.{section_lines, first_in_section}
 use Rattle.mc_text.specs.Stops.{IsEnd}

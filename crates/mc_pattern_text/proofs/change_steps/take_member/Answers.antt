@@ -1,5 +1,4 @@
 use Rattle.std.proofs.Common.{arith}
-use Rattle.mc_pattern_text.proofs.NamedSignals.{place_below}
 use Rattle.mc_pattern_text.proofs.ChangeMembers.{member-twice, member-late, member-taken, place-late, place-done}
 use Rattle.mc_pattern_text.proofs.change_steps.take_member.Goals as goal
 

@@ -1,4 +1,3 @@
-use Rattle.std.proofs.Common.{refl}
 use Rattle.mc_pattern_text.proofs.ChangeKeeping.{begins}
 use Rattle.mc_pattern_text.proofs.change_reader.ChangeReader.new.Goals as goal
 

@@ -1,5 +1,4 @@
-use Rattle.std.proofs.Common.{◌≡◌, refl, ap, ap₂}
-use Rattle.mc_pattern_text.specs.ChangeJudge.{rules_by}
+use Rattle.std.proofs.Common.{refl}
 use Rattle.mc_pattern_text.proofs.ChangeKeeping.{word_kept}
 use Rattle.mc_pattern_text.proofs.change_section.ChangeReaderSection.word.Goals as goal
 
