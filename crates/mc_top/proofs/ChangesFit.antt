@@ -62,7 +62,7 @@ earlier_from front done (r ∷ rows) fit held (suc i) row found q member =
     ap (λ (xs : List ℕ). is_member xs q)
     (sym (append_assoc front (r.qubit ∷ []) (take i (qubits_of rows))))
     ∙ earlier_from (front ++ r.qubit ∷ []) (replaced done r.qubit true) rows fit.2
-      (replaced_member done front r.qubit held) i row found q member
+    (replaced_member done front r.qubit held) i row found q member
 
 -- shifting keeps the order of measuring
 order_kept : (rows : List ChangeRow) (cs ds : List Command) → IsShifted rows cs ds →

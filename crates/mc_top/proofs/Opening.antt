@@ -43,13 +43,13 @@ spelled_by_kind half (line ∷ lines) end kind place some h =
 
 -- `opened` stands on the header of a text, `headed` behind it
 pub record IsOpened (text : List ℕ) (begun opened headed : Left) (kind : Kind) (place : Place) :
-  Type 0 where
-    pub begins : begun ≡ begin text
-    pub some : has_line begun.later ≡ true
-    pub opens : opened ≡ on_first begun.later begun.last
-    pub header : IsHeader kind place opened.here
-    pub later : headed.later ≡ opened.later
-    pub last : headed.last ≡ opened.last
+    Type 0 where
+  pub begins : begun ≡ begin text
+  pub some : has_line begun.later ≡ true
+  pub opens : opened ≡ on_first begun.later begun.last
+  pub header : IsHeader kind place opened.here
+  pub later : headed.later ≡ opened.later
+  pub last : headed.last ≡ opened.last
 
 last_kept : (lines : List Line) (end : Place) → (on_first lines end).last ≡ end
 last_kept [] end = refl
@@ -131,7 +131,7 @@ first_in_change : (p : plain.Pattern) (lines : List Line) (end : Place) → has_
     ≡ None →
     first_behind_pattern p lines end
     ≡ or_later (first_in_section (change_rules p) [] (on_first lines end).later end)
-      (first_behind (behind_section (on_first lines end).later))
+    (first_behind (behind_section (on_first lines end).later))
 first_in_change p [] end some clean = absurd (cc)
 first_in_change p (line ∷ lines) end some clean = rw clean refl
 
@@ -139,7 +139,7 @@ pub behind_first : (p : plain.Pattern) (lines : List Line) (end : Place) (opened
     IsBehind lines end opened headed →
     first_behind_pattern p lines end
     ≡ or_later (first_in_section (change_rules p) [] headed.later headed.last)
-      (first_behind (behind_section headed.later))
+    (first_behind (behind_section headed.later))
 behind_first p lines end opened headed b =
     let none = subst
     (λ (left : Left). first_in_header refused_behind BehindEnd left.here left.lack ≡ None)

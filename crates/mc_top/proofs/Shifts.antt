@@ -43,7 +43,7 @@ shifted_by p s q valid form only alike maps = record {
   alike = λ o.
       subst
       (λ (t : Pattern).
-          AlikeBranches (ring 4) p o (shifted_form t) (new_outcomes (change_of t.commands) o))
+      AlikeBranches (ring 4) p o (shifted_form t) (new_outcomes (change_of t.commands) o))
       form
       (subst
       (λ (r : Pattern). AlikeBranches (ring 4) p o r (new_outcomes (change_of s.commands) o))

@@ -102,7 +102,8 @@ fn translates_circuits(rt: HostRuntime) -> Result<(), Fail> {
 
 const TWO_GATES: &str = "circuit 1\nin a\nj a 1\nj a 2\nout a\nend\n";
 
-const TWO_GATES_STANDARD: &str = "pattern 1\nin a\nn q1\nn q2\ne a q1\ne q1 q2\nm a 7\nm q1 6 s: a\nx q2 q1\nz q2 a\nout q2\nend\n";
+const TWO_GATES_STANDARD: &str =
+    "pattern 1\nin a\nn q1\nn q2\ne a q1\ne q1 q2\nm a 7\nm q1 6 s: a\nx q2 q1\nz q2 a\nout q2\nend\n";
 
 const WILD: &str = "pattern 1\nin a b\nm a 0\nz b a\nx b a\nout b\nend\n";
 
@@ -110,15 +111,11 @@ const WILD_STANDARD: &str = "pattern 1\nin a b\nm a 0\nx b a\nz b a\nout b\nend\
 
 const THREE_GATES: &str = "circuit 1\nin a\nj a 1\nj a 2\nj a 3\nout a\nend\n";
 
-const THREE_GATES_SHIFTED: &str = "pattern 1\nin a\nn q1\nn q2\nn q3\ne a q1\ne q1 q2\ne q2 q3\nm a 7\nm q1 6 s: a\nm q2 5 s: q1\nx q3 a q2\nz q3 q1\nout q3\nend\nchange 1\no a\no q1\no q2 a\nend\n";
+const THREE_GATES_SHIFTED: &str =
+    "pattern 1\nin a\nn q1\nn q2\nn q3\ne a q1\ne q1 q2\ne q2 q3\nm a 7\nm q1 6 s: a\nm q2 5 s: q1\nx q3 a q2\nz q3 q1\nout q3\nend\nchange 1\no a\no q1\no q2 a\nend\n";
 
 /// Serves a word on each text, and compares the answer with the one beside it.
-fn answers(
-    rt: &impl Abort,
-    alloc: Global,
-    word: &str,
-    rows: &[(&str, &str)],
-) -> Result<(), Fail> {
+fn answers(rt: &impl Abort, alloc: Global, word: &str, rows: &[(&str, &str)]) -> Result<(), Fail> {
     for row in rows {
         check(rt, alloc, word, row.0.as_bytes(), (Status::Done, row.1, ""))?;
     }

@@ -29,11 +29,11 @@ returns-clause-text c =
     c.in_ok-standard.ensures.form
     (subst
     (λ (rows : List ChangeRow). IfOk written (λ text.
-        text.items ≡ pattern_text (shifted_form standard) ++ change_text (shifted_form standard) rows))
+    text.items ≡ pattern_text (shifted_form standard) ++ change_text (shifted_form standard) rows))
     c.in_ok-shifted.ensures.change
     (subst
     (λ (q : Pattern). IfOk written (λ text.
-        text.items ≡ pattern_text q ++ change_text q c.in_ok-shifted.change))
+    text.items ≡ pattern_text q ++ change_text q c.in_ok-shifted.change))
     form c.print_with_change.ensures))
 
 pub returns-clause-meaning : goal.returns-clause-meaning
