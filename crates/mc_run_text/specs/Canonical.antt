@@ -1,5 +1,5 @@
 -- The texts of tables.
-use Rattle.std.specs.Prelude.{ℕ, ◌^◌, Bool, cond, List, [], ◌∷◌, ◌++◌, map, codes, slice_index_or, Option, None, Some}
+use Rattle.std.specs.Prelude.{ℕ, ◌^◌, Bool, cond, ℤ, List, [], ◌∷◌, ◌++◌, map, codes, slice_index_or, Option, None, Some}
 use Rattle.std.specs.List.{flat_map, list_any}
 use Rattle.std.specs.Option.{is_none}
 use Rattle.std.specs.Fmt.{decimal}
@@ -20,12 +20,16 @@ abbrev pub bits_word : List Bool → List ℕ
 bits_word [] = codes "-"
 bits_word (bit ∷ bits) = digits (bit ∷ bits)
 
--- the amplitude, reduced, at the output bits `y` and the input bits `b`
+-- the words of an element over a power of the root of two, reduced
+abbrev pub reduced_words : ℕ → List ℤ → ℕ → Line
+reduced_words half a halves =
+    amplitude_words (reduced half a halves).num (reduced half a halves).halves
+
+-- the amplitude at the output bits `y` and the input bits `b`
 abbrev pub amplitude_line : ℕ → TableValue → ℕ → ℕ → Line
 amplitude_line half t y b =
-    let amplitude = reduced half (entry_at t y b) t.halves in
     codes "amp" ∷ bits_word (spelled t.outputs y) ∷ bits_word (spelled t.inputs b)
-    ∷ amplitude_words amplitude.num amplitude.halves
+    ∷ reduced_words half (entry_at t y b) t.halves
 
 -- by rising input bits, and for each of these by rising output bits
 abbrev pub amplitude_lines : ℕ → TableValue → List Line
@@ -63,13 +67,17 @@ branch_lines half measured r i =
     (codes "branch" ∷ bits_word (spelled measured i) ∷ codes "phase" ∷ phase_word (phase_at r i) ∷ [])
     ∷ amplitude_lines half (table_at r i)
 
--- whether each branch is the first one times a power of `w`
-abbrev pub alike_word : ReportValue → List ℕ
-alike_word r = cond (list_any is_none r.phases) (codes "no") (codes "yes")
+-- whether a branch has no phase
+abbrev pub is_any_apart : ℕ → ReportValue → Bool
+is_any_apart count r = list_any (λ i. is_none (phase_at r i)) (numbers_from 0 count)
+
+-- whether all branches are alike
+abbrev pub alike_line : Bool → Line
+alike_line is_apart = codes "alike" ∷ cond is_apart (codes "no") (codes "yes") ∷ []
 
 -- all branches, by rising outcomes
 abbrev pub report_text : ℕ → ℕ → ReportValue → List ℕ
 report_text half measured r =
     text_of ((codes "branches" ∷ codes "1" ∷ [])
     ∷ (flat_map (branch_lines half measured r) (numbers_from 0 (2 ^ measured))
-    ++ (codes "alike" ∷ alike_word r ∷ []) ∷ (codes "end" ∷ []) ∷ []))
+    ++ alike_line (is_any_apart (2 ^ measured) r) ∷ (codes "end" ∷ []) ∷ []))

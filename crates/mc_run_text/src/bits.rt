@@ -43,7 +43,7 @@ fn push_digits(text: &mut Vec<u8>, count: u16, number: usize) -> Result<(), Memo
     let mut left = count;
     'digits: while left > 0 {
         left -= 1;
-        push_bit(text, number / (1 << left) % 2 == 1)?;
+        push_bit(text, (number >> left) % 2 == 1)?;
     }
     Ok(())
 }

@@ -1,13 +1,15 @@
 //! Printing tables.
 
-ghost use Rattle.std.specs.Prelude.{◌≡◌, ◌++◌, ◌∷◌, [], ◌<◌, ◌^◌, IfOk, OnOk, map, codes};
+ghost use Rattle.std.specs.Prelude.{◌≡◌, ◌++◌, ◌∷◌, [], ◌<◌, ◌≤◌, ◌^◌, IfOk, OnOk, IsTrue, map, codes};
+ghost use Rattle.mc_model.specs.Steps.{is_permitted};
 ghost use Rattle.mc_model.specs.Numbers.{numbers_from};
-ghost use Rattle.mc_write.specs.Text.{line_text, text_of};
-ghost use Rattle.mc_run_text.specs.Canonical.{bits_word, amplitude_line, amplitude_lines, table_text, branch_text};
+ghost use Rattle.mc_write.specs.Text.{line_text, text_of, words_behind};
+ghost use Rattle.mc_run_text.specs.Canonical.{bits_word, reduced_words, amplitude_line, amplitude_lines, table_text, branch_text};
 
 use crate::bits::{add_bits, add_digits};
-use mc_cyclo::Amp;
+use mc_cyclo::{Amp, Cyclo};
 use mc_model::Memory;
+use mc_ring::Ring;
 use mc_run::Table;
 use mc_write::{add_word, end_line, start_line};
 use std::alloc::Global;
@@ -20,6 +22,28 @@ fn print_header(text: &mut Vec<u8>) -> Result<(), Memory>
     end_line(text)
 }
 
+fn two_to(count: u16) -> usize
+    requires { count ≤ 16 }
+    ensures { result ≡ 2 ^ count }
+{
+    1 << count
+}
+
+/// Writes an element over a power of the root of two, reduced, as further words of a line.
+fn add_amplitude<const H: usize>(
+    text: &mut Vec<u8>,
+    entry: &Cyclo<H>,
+    halves: u32,
+) -> Result<(), Memory>
+    ensures { OnOk result (text.new.items ≡ text.old.items ++ words_behind (reduced_words H entry.now halves)) }
+{
+    entry.known();
+    let amplitude = Amp::reduced(*entry, halves);
+    amplitude.num().known();
+    add_word(text, b"")?;
+    amplitude.print(text)
+}
+
 /// The line of the amplitude at the bits of `y` on the outputs and of `b` on the inputs.
 fn print_amplitude<const H: usize>(
     text: &mut Vec<u8>,
@@ -27,16 +51,15 @@ fn print_amplitude<const H: usize>(
     y: usize,
     b: usize,
 ) -> Result<(), Memory>
+    requires permitted { IsTrue (is_permitted H) }
     requires output { y < 2 ^ table.now.outputs }
     requires input { b < 2 ^ table.now.inputs }
     ensures { OnOk result (text.new.items ≡ text.old.items ++ line_text (amplitude_line H table.now y b)) }
 {
-    let amplitude = Amp::reduced(table.at(y, b), table.halves());
     start_line(text, b"amp")?;
     add_digits(text, table.outputs(), y)?;
     add_digits(text, table.inputs(), b)?;
-    add_word(text, b"")?;
-    amplitude.print(text)?;
+    add_amplitude(text, &table.at(y, b), table.halves())?;
     end_line(text)
 }
 
@@ -46,11 +69,12 @@ fn print_column<const H: usize>(
     table: &Table<H>,
     b: usize,
 ) -> Result<(), Memory>
-    requires { b < 2 ^ table.now.inputs }
+    requires permitted { IsTrue (is_permitted H) }
+    requires input { b < 2 ^ table.now.inputs }
     ensures { OnOk result (text.new.items ≡ text.old.items ++ text_of
         (map (λ y. amplitude_line H table.now y b) (numbers_from 0 (2 ^ table.now.outputs)))) }
 {
-    'outputs: for y in 0..1 << table.outputs() {
+    'outputs: for y in 0..two_to(table.outputs()) {
         print_amplitude(text, table, y, b)?;
     }
     Ok(())
@@ -61,9 +85,10 @@ pub(crate) fn print_amplitudes<const H: usize>(
     text: &mut Vec<u8>,
     table: &Table<H>,
 ) -> Result<(), Memory>
+    requires { IsTrue (is_permitted H) }
     ensures { OnOk result (text.new.items ≡ text.old.items ++ text_of (amplitude_lines H table.now)) }
 {
-    'inputs: for b in 0..1 << table.inputs() {
+    'inputs: for b in 0..two_to(table.inputs()) {
         print_column(text, table, b)?;
     }
     Ok(())
@@ -87,6 +112,7 @@ fn print_outcomes(text: &mut Vec<u8>, outcomes: &[bool]) -> Result<(), Memory>
 
 /// The text of a table: a line for each amplitude, reduced, by rising input bits and for each of these by rising output bits.
 pub fn print_table<const H: usize>(alloc: Global, table: &Table<H>) -> Result<Vec<u8>, Memory>
+    requires { IsTrue (is_permitted H) }
     ensures { IfOk result (λ text. text.items ≡ table_text H table.now) }
 {
     let mut text = Vec::new(alloc);
@@ -102,6 +128,7 @@ pub fn print_branch<const H: usize>(
     table: &Table<H>,
     outcomes: &[bool],
 ) -> Result<Vec<u8>, Memory>
+    requires { IsTrue (is_permitted H) }
     ensures { IfOk result (λ text. text.items ≡ branch_text H outcomes.now table.now) }
 {
     let mut text = Vec::new(alloc);

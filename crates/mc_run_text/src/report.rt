@@ -1,12 +1,12 @@
 //! Printing reports on all branches.
 
 ghost use Rattle.std.specs.Prelude.{◌≡◌, ◌++◌, ◌∷◌, [], ◌<◌, ◌^◌, IfOk, OnOk, IsTrue, Option, length, codes};
-ghost use Rattle.std.specs.List.{flat_map, list_any};
-ghost use Rattle.std.specs.Option.{is_none};
+ghost use Rattle.std.specs.List.{flat_map};
+ghost use Rattle.mc_model.specs.Steps.{is_permitted};
 ghost use Rattle.mc_model.specs.Numbers.{numbers_from};
 ghost use Rattle.mc_run.specs.Settings.{spelled};
 ghost use Rattle.mc_write.specs.Text.{line_text, text_of};
-ghost use Rattle.mc_run_text.specs.Canonical.{bits_word, phase_word, branch_lines, alike_word, report_text};
+ghost use Rattle.mc_run_text.specs.Canonical.{bits_word, phase_word, branch_lines, is_any_apart, alike_line, report_text};
 
 use crate::bits::add_digits;
 use crate::print::{print_amplitudes, print_end};
@@ -50,25 +50,42 @@ fn print_name(
     end_line(text)
 }
 
+/// The lines of a branch.
+fn print_one<const H: usize>(
+    text: &mut Vec<u8>,
+    report: &Report<H>,
+    measured: u16,
+    number: usize,
+) -> Result<(), Memory>
+    requires permitted { IsTrue (is_permitted H) }
+    requires few { measured < 64 }
+    requires within { number < length report.now.tables }
+    ensures { OnOk result (text.new.items ≡
+        text.old.items ++ text_of (branch_lines H measured report.now number)) }
+{
+    print_name(text, measured, number, report.phase(number))?;
+    print_amplitudes(text, report.branch(number))
+}
+
 fn print_branches<const H: usize>(
     text: &mut Vec<u8>,
     report: &Report<H>,
     measured: u16,
 ) -> Result<(), Memory>
-    requires { length report.now.tables ≡ 2 ^ measured }
+    requires permitted { IsTrue (is_permitted H) }
+    requires count { length report.now.tables ≡ 2 ^ measured }
     ensures { OnOk result (text.new.items ≡ text.old.items ++ text_of
         (flat_map (branch_lines H measured report.now) (numbers_from 0 (2 ^ measured)))) }
 {
     'branches: for i in 0..report.branches() {
-        print_name(text, measured, i, report.phase(i))?;
-        print_amplitudes(text, report.branch(i))?;
+        print_one(text, report, measured, i)?;
     }
     Ok(())
 }
 
 /// Whether a branch has no phase.
-fn is_wild<const H: usize>(report: &Report<H>) -> bool
-    ensures { result ≡ list_any is_none report.now.phases }
+fn is_any_apart<const H: usize>(report: &Report<H>) -> bool
+    ensures { result ≡ is_any_apart (length report.now.tables) report.now }
 {
     'branches: for i in 0..report.branches() {
         if report.phase(i).is_none() {
@@ -78,12 +95,11 @@ fn is_wild<const H: usize>(report: &Report<H>) -> bool
     false
 }
 
-fn print_alike<const H: usize>(text: &mut Vec<u8>, report: &Report<H>) -> Result<(), Memory>
-    ensures { OnOk result (text.new.items ≡
-        text.old.items ++ line_text (codes "alike" ∷ alike_word report.now ∷ [])) }
+fn print_alike(text: &mut Vec<u8>, is_apart: bool) -> Result<(), Memory>
+    ensures { OnOk result (text.new.items ≡ text.old.items ++ line_text (alike_line is_apart)) }
 {
     start_line(text, b"alike")?;
-    if is_wild(report) {
+    if is_apart {
         add_word(text, b"no")?;
     } else {
         add_word(text, b"yes")?;
@@ -98,13 +114,14 @@ pub fn print_report<const H: usize>(
     report: &Report<H>,
     measured: u16,
 ) -> Result<Vec<u8>, Memory>
-    requires { length report.now.tables ≡ 2 ^ measured }
+    requires permitted { IsTrue (is_permitted H) }
+    requires count { length report.now.tables ≡ 2 ^ measured }
     ensures { IfOk result (λ text. text.items ≡ report_text H measured report.now) }
 {
     let mut text = Vec::new(alloc);
     print_header(&mut text)?;
     print_branches(&mut text, report, measured)?;
-    print_alike(&mut text, report)?;
+    print_alike(&mut text, is_any_apart(report))?;
     print_end(&mut text)?;
     Ok(text)
 }
