@@ -1,0 +1,21 @@
+use Rattle.std.proofs.Common.{subst}
+use Rattle.mc_circuit.proofs.Operands.{OnOk_to}
+use Rattle.mc_cyclo.specs.Cyclo.{IsLong}
+use Rattle.mc_cyclo.proofs.RootLemmas.{permitted_quartered}
+use Rattle.mc_run_text.proofs.Reducing.{is_the_reduced}
+use Rattle.mc_run_text.proofs.Printing.{amplitude_behind}
+use Rattle.mc_run_text.proofs.print.add_amplitude.Goals as goal
+
+pub returns : goal.returns
+returns g c =
+    let amplitude = c.reduced-amplitude.result in
+    let reduced = c.reduced-amplitude.ensures in
+    let long = subst (IsLong g.row.H) c.num.ensures c.known-2.ensures.element in
+    OnOk_to c.print.result _ _
+    (λ printed. amplitude_behind c.args.text.now.items c.add_word.new.text.items
+    c.print.new.out.items amplitude.num c.args.entry.now amplitude.halves c.args.halves g.row.H
+    c.in_ok-add_word.ensures printed
+    (is_the_reduced g.row.H (permitted_quartered g.row.H c.known.ensures.permitted) amplitude.num
+    c.args.entry.now amplitude.halves c.args.halves c.known.ensures.element long
+    reduced.value reduced.least))
+    c.print.ensures
