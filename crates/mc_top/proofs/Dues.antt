@@ -2,7 +2,7 @@
 use Rattle.std.proofs.Common.{◌≡◌, ◌⊎◌, ℕ, ◌+◌, ◌<◌, ◌≤◌, List, length, Bool, true, false, nat_lt, Option, Some, None, Result, Ok, Err, IfOk, IfErr, refl, sym, subst, ap, inl, inr, ◌∙◌, arith}
 use Rattle.std.specs.Prelude.{IfSome}
 use Rattle.std.proofs.lemmas.Bool.Decides.{nat_tests}
-use Rattle.mc_top.specs.declared.task.Task.{Task}
+use Rattle.mc_top.specs.Tasks.{Asked}
 use Rattle.mc_lex.specs.declared.end.TextEnd.{TextEnd}
 use Rattle.mc_lex.specs.declared.end.TextEnd.TheVariants as end
 use Rattle.mc_model.specs.Pattern.{Circuit, Pattern, wires}
@@ -17,7 +17,7 @@ use Rattle.std.specs.declared.alloc.Global.{Global}
 use Rattle.mc_top.specs.Serve.{Due, answer, source_of, due_from, Gives, IsStatus, status_of, due_of, due_for, source_limit, most_bytes}
 use Rattle.mc_top.specs.Documents.{Spelled, circuit}
 
-pub due_within : (task : Task) (input : List ℕ) → length input ≤ 8388608 →
+pub due_within : (task : Asked) (input : List ℕ) → length input ≤ 8388608 →
     due_of task input ≡ due_for task input
 due_within task input h =
     let t : nat_lt 8388608 (length input) ≡ false = grind (arith, nat_tests) in
@@ -70,7 +70,7 @@ no_fault due given (inr (inl e)) no_read no_write = absurd (no_read e)
 no_fault due given (inr (inr (inl e))) no_read no_write = inr e
 no_fault due given (inr (inr (inr (done, e)))) no_read no_write = absurd (no_write e)
 
-pub of_task : (found : Option Task) (P Q : Task → Type 0) → ((task : Task) → P task → Q task) →
+pub of_task : (found : Option Asked) (P Q : Asked → Type 0) → ((task : Asked) → P task → Q task) →
     IfSome found P → IfSome found Q
 of_task None P Q h p = tt
 of_task (Some task) P Q h p = h task p

@@ -3,7 +3,7 @@ use Rattle.std.specs.Prelude.{ℕ, List, [], ◌∷◌, Bool, if◌then◌else�
 use Rattle.mc_lex.specs.declared.kind.Kind.{Kind}
 use Rattle.mc_lex.specs.declared.kind.Kind.TheVariants.{Circuit, Pattern, Graph, Change}
 use Rattle.mc_lex.specs.Kinds.{kind_of}
-use Rattle.mc_lex.specs.Lines.{Line, lines_of, end_of}
+use Rattle.mc_lex.specs.Lines.{Item, word, bad, Line, lines_of, end_of}
 use Rattle.mc_model.specs.Pattern as plain
 use Rattle.mc_model.specs.Shift.{ChangeRow}
 use Rattle.mc_text.specs.declared.fault.Fault.{Fault}
@@ -42,7 +42,7 @@ StartsDocument _ = ⊥
 -- nothing may stand behind a document
 abbrev pub nothing_more : Rules
 nothing_more = record {
-  judge = λ before here word. Some (fault BehindEnd);
+  judge = λ before here w. Some (fault BehindEnd);
   lacks = λ before here. None;
 }
 
@@ -61,7 +61,7 @@ first_behind_pattern p (line ∷ lines) end =
 -- the kind of section that the first word of a line names
 abbrev pub kind_in : Words → Option Kind
 kind_in [] = None
-kind_in (word ∷ words) = kind_of word
+kind_in (first ∷ words) = kind_of first
 
 -- the first of the section of a kind, and of what stands behind it, with angles of so many steps in
 -- half a turn
@@ -108,3 +108,19 @@ spelled_lines half (line ∷ lines) = spelled_in_kind half (kind_in (words_of li
 -- the document that a text without faults spells
 abbrev pub spelled : ℕ → List ℕ → Option Spelled
 spelled half text = spelled_lines half (lines_of text)
+
+-- the place of the first word of a text
+abbrev pub place_of_item : Item → Place
+place_of_item (word bytes line column) = (line, column)
+place_of_item (bad line column) = (line, column)
+
+abbrev pub place_in : List Item → Place → Place
+place_in [] lack = lack
+place_in (item ∷ items) lack = place_of_item item
+
+abbrev pub place_in_lines : List Line → Place → Place
+place_in_lines [] end = end
+place_in_lines (line ∷ lines) end = place_in line.items line.lack
+
+abbrev pub first_place : List ℕ → Place
+first_place text = place_in_lines (lines_of text) (end_of text)

@@ -9,8 +9,7 @@ use Rattle.mc_model.specs.Translation.{translation}
 use Rattle.mc_model.specs.StandardForm.{standard_form}
 use Rattle.mc_model.specs.Shift.{new_outcomes, change_of, IsShiftedForm}
 use Rattle.mc_shift.specs.Shifted.{shifted_form}
-use Rattle.mc_top.specs.declared.task.Task.{Task}
-use Rattle.mc_top.specs.declared.task.Task.TheVariants.{Translate, Print, Standard, Shift}
+use Rattle.mc_top.specs.Tasks.{Asked, translate, print, standard, shift, run, run_branch}
 use Rattle.mc_top.specs.Documents.{Spelled, circuit, pattern, spelled}
 use Rattle.mc_top.specs.Serve.{source_of}
 
@@ -34,17 +33,19 @@ pub record IsShiftedBy (p q : Pattern) : Type 0 where
   pub alike : (o : Bits) →
       AlikeBranches (ring 4) p o q (new_outcomes (change_of (standard_form p).commands) o)
 
--- what the answer to a document means
-abbrev pub MeansOf : Task → Spelled → Type 0
-MeansOf Translate d = IsTranslated d
-MeansOf Print d = ⊤
-MeansOf Standard d = IsStandardised (source_of d)
-MeansOf Shift d = IsShiftedBy (source_of d) (shifted_form (standard_form (source_of d)))
+-- what the answer to a document means, beside what its text says
+abbrev pub MeansOf : Asked → Spelled → Type 0
+MeansOf translate d = IsTranslated d
+MeansOf standard d = IsStandardised (source_of d)
+MeansOf shift d = IsShiftedBy (source_of d) (shifted_form (standard_form (source_of d)))
+MeansOf print d = ⊤
+MeansOf run d = ⊤
+MeansOf (run_branch outcomes) d = ⊤
 
-abbrev pub MeansSpelled : Task → Option Spelled → Type 0
-MeansSpelled task None = ⊤
-MeansSpelled task (Some d) = MeansOf task d
+abbrev pub MeansSpelled : Asked → Option Spelled → Type 0
+MeansSpelled asked None = ⊤
+MeansSpelled asked (Some d) = MeansOf asked d
 
 -- what the answer to a text means
-abbrev pub Means : Task → List ℕ → Type 0
-Means task text = MeansSpelled task (spelled 4 text)
+abbrev pub Means : Asked → List ℕ → Type 0
+Means asked text = MeansSpelled asked (spelled 4 text)

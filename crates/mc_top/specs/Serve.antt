@@ -1,5 +1,6 @@
 -- What the bytes that come in call for.
-use Rattle.std.specs.Prelude.{◌≡◌, ◌≢◌, ◌⊎◌, ℕ, ◌+◌, true, false, List, [], ◌∷◌, ◌++◌, length, nat_lt, if◌then◌else◌, Option, None, Some, Result, Ok, Err}
+use Rattle.std.specs.Prelude.{◌≡◌, ◌≢◌, ◌⊎◌, ℕ, ◌+◌, true, false, List, [], ◌∷◌, ◌++◌, length, nat_eq, nat_lt, Bool, if◌then◌else◌, Option, None, Some, Result, Ok, Err}
+use Rattle.std.specs.Option.{option_map}
 use Rattle.std.specs.declared.vec.Vec.{Vec}
 use Rattle.std.specs.declared.alloc.Global.{Global}
 use Rattle.mc_model.specs.Pattern.{Circuit, Pattern, wires}
@@ -11,6 +12,7 @@ use Rattle.mc_io.specs.Told.{AppendsWhereTold, AppendsPrefix}
 use Rattle.mc_io.specs.Faults.{Rose}
 use Rattle.mc_lex.specs.declared.end.TextEnd.{TextEnd}
 use Rattle.mc_lex.specs.declared.end.TextEnd.TheVariants as end
+use Rattle.mc_text.specs.Judged.{Place}
 use Rattle.mc_text.specs.Stops.{answered}
 use Rattle.mc_circuit.specs.Canonical.{circuit_text}
 use Rattle.mc_pattern_text.specs.Canonical.{pattern_text}
@@ -19,10 +21,12 @@ use Rattle.mc_shift.specs.Shifted.{shifted_form}
 use Rattle.mc_top.specs.declared.status.Status.{Status}
 use Rattle.mc_top.specs.declared.status.Status.TheVariants as status
 use Rattle.mc_top.specs.declared.takes.Takes.{Takes}
-use Rattle.mc_top.specs.declared.task.Task.{Task}
-use Rattle.mc_top.specs.declared.task.Task.TheVariants.{Translate, Print, Standard, Shift}
+use Rattle.mc_top.specs.Tasks.{Asked, translate, print, standard, shift, run, run_branch}
 use Rattle.mc_top.specs.Ends.{status_by_end}
-use Rattle.mc_top.specs.Documents.{Spelled, circuit, pattern, first_in_text, spelled}
+use Rattle.mc_run.specs.Limits.{circuit_limit, branch_limit, all_limit}
+use Rattle.mc_run_text.specs.Runs.{circuit_run, branch_run, all_runs}
+use Rattle.mc_pattern.specs.Patterns.{measured_count}
+use Rattle.mc_top.specs.Documents.{Spelled, circuit, pattern, first_in_text, first_place, spelled}
 
 -- the whole answer, or the refusal or the passed limit
 pub data Due : Type 0 where
@@ -35,8 +39,9 @@ due_unless None due = due
 due_unless (Some end) due = refusal end
 
 -- the kinds of document that a task takes
-abbrev pub takes_of : Task → Takes
-takes_of Translate = record { circuit = true; pattern = false }
+abbrev pub takes_of : Asked → Takes
+takes_of translate = record { circuit = true; pattern = false }
+takes_of (run_branch outcomes) = record { circuit = false; pattern = true }
 takes_of _ = record { circuit = true; pattern = true }
 
 -- the pattern of a document, where a circuit counts as its translation
@@ -74,29 +79,50 @@ shifted_text p = pattern_text (shifted_form p) ++ change_text (shifted_form p) (
 abbrev pub due_from : Spelled → (Pattern → List ℕ) → Due
 due_from d text_for = due_unless (source_limit d) (answer (text_for (source_of d)))
 
-abbrev pub due_document : Task → Spelled → Due
-due_document Translate d = due_from d pattern_text
-due_document Print d = answer (document_text d)
-due_document Standard d = due_from d (λ p. pattern_text (standard_form p))
-due_document Shift d = due_from d (λ p. shifted_text (standard_form p))
+-- a passed limit of a run, by its number and what passes it
+abbrev pub run_limit : Option (ℕ × ℕ) → Option TextEnd
+run_limit limit = option_map (λ (l : ℕ × ℕ). end.Limit l.0 l.1) limit
+
+-- the table of a circuit, or of all branches of a pattern
+abbrev pub due_run : Spelled → Due
+due_run (circuit c) = due_unless (run_limit (circuit_limit c)) (answer (circuit_run 4 c))
+due_run (pattern p change) = due_unless (run_limit (all_limit p)) (answer (all_runs 4 p))
+
+-- the table of a branch, with an outcome for each measured qubit; what else is asked for is refused
+-- at the first word of the text
+abbrev pub due_branch : Place → List Bool → Spelled → Due
+due_branch place outcomes (circuit c) = answer []
+due_branch place outcomes (pattern p change) =
+    if nat_eq (length outcomes) (measured_count p)
+    then due_unless (run_limit (branch_limit p)) (answer (branch_run 4 p outcomes))
+    else refusal (end.Refused 25 place.0 place.1)
+
+abbrev pub due_document : Asked → Place → Spelled → Due
+due_document translate place d = due_from d pattern_text
+due_document print place d = answer (document_text d)
+due_document standard place d = due_from d (λ p. pattern_text (standard_form p))
+due_document shift place d = due_from d (λ p. shifted_text (standard_form p))
+due_document run place d = due_run d
+due_document (run_branch outcomes) place d = due_branch place outcomes d
 
 -- a text without faults spells a document
-abbrev pub due_spelled : Task → Option Spelled → Due
-due_spelled task None = answer []
-due_spelled task (Some d) = due_document task d
+abbrev pub due_spelled : Asked → Place → Option Spelled → Due
+due_spelled asked place None = answer []
+due_spelled asked place (Some d) = due_document asked place d
 
 -- by the answer to the first fault or limit of the text
-abbrev pub due_for : Task → List ℕ → Due
-due_for task text =
-    due_unless (answered (first_in_text 4 (takes_of task) text)) (due_spelled task (spelled 4 text))
+abbrev pub due_for : Asked → List ℕ → Due
+due_for asked text =
+    due_unless (answered (first_in_text 4 (takes_of asked) text))
+    (due_spelled asked (first_place text) (spelled 4 text))
 
 -- the most bytes of a text
 abbrev pub most_bytes : ℕ
 most_bytes = 8388608
 
-abbrev pub due_of : Task → List ℕ → Due
-due_of task input =
-    if nat_lt most_bytes (length input) then refusal (end.Limit 1 8388609) else due_for task input
+abbrev pub due_of : Asked → List ℕ → Due
+due_of asked input =
+    if nat_lt most_bytes (length input) then refusal (end.Limit 1 8388609) else due_for asked input
 
 -- the status that is due
 abbrev pub status_of : Due → Status

@@ -5,7 +5,7 @@ ghost use Rattle.mc_lex.specs.declared.kind.Kind.TheVariants as kind;
 ghost use Rattle.mc_model.specs.Steps.{is_permitted};
 ghost use Rattle.mc_text.specs.Stops.{IsEnd};
 ghost use Rattle.mc_top.specs.Documents.{StartsDocument, first_behind, first_behind_pattern, first_in_kind, first_in_text};
-ghost use Rattle.mc_top.specs.Documents.{circuit, spelled, spelled_change, spelled_in_kind};
+ghost use Rattle.mc_top.specs.Documents.{circuit, first_place, spelled, spelled_change, spelled_in_kind};
 ghost use Rattle.mc_top.specs.Spelled.{plain_document, Fits, FitsPattern};
 
 use crate::takes::{BehindPattern, Takes};
@@ -164,5 +164,21 @@ fn read_nothing(words: &mut Words<'_>) -> Result<(), TextEnd>
         Token::Word(word) => Err(Fault::BehindEnd.at(word.line, word.column)),
         Token::Bad { line, column } => Err(Fault::StrayByte.at(line, column)),
         Token::End { .. } => Ok(()),
+    }
+}
+
+/// The place of the first word of a text, or its end place where there is none.
+pub(crate) fn first_place(text: &[u8]) -> (u32, u32)
+    requires { length text.now ≤ 8_388_608 }
+    ensures { result ≡ first_place text.now }
+{
+    let mut words = Words::new(text);
+    if !words.next_line() {
+        return words.end_place();
+    }
+    match words.next() {
+        Token::Word(word) => (word.line, word.column),
+        Token::Bad { line, column } => (line, column),
+        Token::End { line, column } => (line, column),
     }
 }

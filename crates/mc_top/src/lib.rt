@@ -4,6 +4,7 @@
 mod document;
 mod note;
 mod passes;
+mod run;
 mod status;
 mod takes;
 mod task;

@@ -1,15 +1,17 @@
 //! The words that the command knows.
 
-ghost use Rattle.std.specs.Prelude.{◌≡◌, map};
+ghost use Rattle.std.specs.Prelude.{◌≡◌, ◌&&◌, None, Some, if◌then◌else◌, nat_eq, map, codes};
+ghost use Rattle.std.specs.Option.{option_map};
 ghost use Rattle.std.specs.String.{string_bytes};
-ghost use Rattle.mc_top.specs.Tasks.{task_in};
+ghost use Rattle.std.specs.Cmp.Lexicographic.{pointwise};
+ghost use Rattle.mc_top.specs.Tasks.{are_outcomes, asked_in, is_one, plain_task, run_branch};
 ghost use Rattle.mc_top.specs.Serve.{takes_of};
 
 use crate::takes::Takes;
 
 /// What the words ask for.
-#[derive(Clone, Copy, Debug, PartialEq, Eq)]
-pub enum Task {
+#[derive(Clone, Copy)]
+pub enum Task<'w> {
     /// The pattern of a circuit.
     Translate,
     /// The document in canonical spelling.
@@ -18,38 +20,67 @@ pub enum Task {
     Standard,
     /// The shifted form of a pattern, and the change of outcomes.
     Shift,
+    /// The table of a circuit, or of all branches of a pattern.
+    Run,
+    /// The table of the branch with these outcomes, a digit each, in measuring order.
+    RunBranch(&'w [u8]),
 }
 
-impl Task {
+impl<'w> Task<'w> {
     /// The kinds of document that are taken.
     pub(crate) fn takes(&self) -> Takes
-        ensures { result ≡ takes_of self.now }
+        ensures { result ≡ takes_of (plain_task self.now) }
     {
-        match self {
-            Task::Translate => Takes {
-                circuit: true,
-                pattern: false,
-            },
-            Task::Print | Task::Standard | Task::Shift => Takes {
-                circuit: true,
-                pattern: true,
-            },
-        }
+        let (circuit, pattern) = match self {
+            Task::Translate => (true, false),
+            Task::Print | Task::Standard | Task::Shift | Task::Run => (true, true),
+            Task::RunBranch(_) => (false, true),
+        };
+        Takes { circuit, pattern }
     }
 }
 
-/// What the words ask for; `None` where they are none of the lists of words that are known.
-pub(crate) fn task_of(words: &[String]) -> Option<Task>
-    ensures { result ≡ task_in (map string_bytes words.now) }
+/// The task that one word asks for.
+fn task_of_word<'w>(word: &[u8]) -> Option<Task<'w>>
+    ensures { option_map plain_task result ≡ asked_in (word.now ∷ []) }
 {
-    let [word] = words else {
-        return None;
-    };
-    match word.as_bytes() {
+    match word {
         b"translate" => Some(Task::Translate),
         b"print" => Some(Task::Print),
         b"standard" => Some(Task::Standard),
         b"shift" => Some(Task::Shift),
+        b"run" => Some(Task::Run),
+        _ => None,
+    }
+}
+
+/// Whether a word is one to 256 outcomes.
+fn are_outcomes(digits: &[u8]) -> bool
+    ensures { result ≡ are_outcomes digits.now }
+{
+    !digits.is_empty()
+        && digits.len() <= 256
+        && digits.iter().all(|digit| *digit == b'0' || *digit == b'1')
+}
+
+/// The task that a word with outcomes behind it asks for.
+fn task_with<'w>(word: &[u8], digits: &'w [u8]) -> Option<Task<'w>>
+    ensures { option_map plain_task result ≡ asked_in (word.now ∷ digits.now ∷ []) }
+{
+    if word == b"run".as_slice() && are_outcomes(digits) {
+        Some(Task::RunBranch(digits))
+    } else {
+        None
+    }
+}
+
+/// What the words ask for; `None` where they are none of the lists of words that are known.
+pub(crate) fn task_of(words: &[String]) -> Option<Task<'_>>
+    ensures { option_map plain_task result ≡ asked_in (map string_bytes words.now) }
+{
+    match words {
+        [word] => task_of_word(word.as_bytes()),
+        [word, digits] => task_with(word.as_bytes(), digits.as_bytes()),
         _ => None,
     }
 }

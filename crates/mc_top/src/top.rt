@@ -6,7 +6,7 @@ ghost use Rattle.std.specs.Io.KnownBytes.{IsAtEnd};
 ghost use Rattle.mc_io.specs.Faults.{Rose};
 ghost use Rattle.mc_io.specs.Told.{TakesAtMost, TellsAsBefore};
 ghost use Rattle.mc_top.specs.Status.{note_of};
-ghost use Rattle.mc_top.specs.Tasks.{task_in, IsListed};
+ghost use Rattle.mc_top.specs.Tasks.{asked_in, plain_task, IsListed};
 ghost use Rattle.mc_top.specs.Serve.{IsStatus, IsAnswered, IsUnwritten, Writes, Notes, due_of, status_of};
 ghost use Rattle.mc_top.specs.Meaning.{Means};
 
@@ -21,11 +21,11 @@ use std::alloc::Global;
 const MOST_BYTES: usize = 8_388_608;
 
 /// Reads the whole source and makes the whole answer, and writes it.
-fn run<S: Source, K: Sink>(alloc: Global, task: Task, source: &mut S, out: &mut K) -> Status
-    ensures status { IfSome (S.left source.old) (λ input. IsStatus (due_of task input) result) }
-    ensures written { IfSome (S.left source.old) (λ input. Writes result (K.written out.old) (K.written out.new) (due_of task input)) }
+fn run<S: Source, K: Sink>(alloc: Global, task: Task<'_>, source: &mut S, out: &mut K) -> Status
+    ensures status { IfSome (S.left source.old) (λ input. IsStatus (due_of (plain_task task) input) result) }
+    ensures written { IfSome (S.left source.old) (λ input. Writes result (K.written out.old) (K.written out.new) (due_of (plain_task task) input)) }
     ensures untouched { IsUnwritten result → out.new ≡ out.old }
-    ensures meaning { result ≡ Status.Done → IfSome (S.left source.old) (λ input. Means task input) }
+    ensures meaning { result ≡ Status.Done → IfSome (S.left source.old) (λ input. Means (plain_task task) input) }
     ensures read { result ≡ Status.ReadFault → Rose (S.faults source.old) (S.faults source.new) }
     ensures write { result ≡ Status.WriteFault → Rose (K.faults out.old) (K.faults out.new) }
     ensures all_read { IsAnswered result → IsAtEnd (S.left source.new) }
@@ -72,18 +72,18 @@ pub fn serve<S: Source, K: Sink, E: Sink>(
 
     // the status is the one that is due for the bytes that were left in the source, or `ReadFault`, `Memory`, or
     // `WriteFault` in place of `Done`
-    ensures status { IfSome (task_in (map string_bytes words.now)) (λ task.
+    ensures status { IfSome (asked_in (map string_bytes words.now)) (λ task.
         IfSome (S.left source.old) (λ input. IsStatus (due_of task input) result)) }
     ensures read { result ≡ Status.ReadFault → Rose (S.faults source.old) (S.faults source.new) }
     ensures write { result ≡ Status.WriteFault → Rose (K.faults out.old) (K.faults out.new) }
 
     // what was appended to `out` is the answer that is due, a part of it at `WriteFault`, and nothing after the others
-    ensures written { IfSome (task_in (map string_bytes words.now)) (λ task.
+    ensures written { IfSome (asked_in (map string_bytes words.now)) (λ task.
         IfSome (S.left source.old) (λ input. Writes result (K.written out.old) (K.written out.new) (due_of task input))) }
     ensures untouched { IsUnwritten result → out.new ≡ out.old }
 
     // what the answer means
-    ensures meaning { result ≡ Status.Done → IfSome (task_in (map string_bytes words.now)) (λ task.
+    ensures meaning { result ≡ Status.Done → IfSome (asked_in (map string_bytes words.now)) (λ task.
         IfSome (S.left source.old) (λ input. Means task input)) }
 
     // the source was read to its end where the answer was made, and never more than one byte past the limit
@@ -109,7 +109,7 @@ pub fn serve_bytes<E: Sink>(
     note: &mut E,
 ) -> Status
     ensures usage { (result ≡ Status.Usage) ↔ (¬ IsListed (map string_bytes words.now)) }
-    ensures status { IfSome (task_in (map string_bytes words.now)) (λ task.
+    ensures status { IfSome (asked_in (map string_bytes words.now)) (λ task.
         (result ≡ status_of (due_of task source.old)) ⊎ (result ≡ Status.Memory)) }
     ensures no_read_fault { result ≢ Status.ReadFault }
     ensures no_write_fault { result ≢ Status.WriteFault }
