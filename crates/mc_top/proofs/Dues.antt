@@ -10,11 +10,13 @@ use Rattle.mc_model.specs.Amplitude.{j_count}
 use Rattle.mc_io.specs.Faults.{Rose}
 use Rattle.mc_top.specs.declared.status.Status.{Status}
 use Rattle.mc_top.specs.declared.status.Status.TheVariants as status
-use Rattle.mc_top.specs.Ends.{status_by_end}
+use Rattle.mc_run.specs.declared.limit.RunEnd.{RunEnd}
+use Rattle.mc_run.specs.declared.limit.RunEnd.TheVariants as run
+use Rattle.mc_top.specs.Ends.{status_by_end, end_of_run}
 use Rattle.mc_model.specs.declared.memory.Memory.{Memory}
 use Rattle.std.specs.declared.vec.Vec.{Vec}
 use Rattle.std.specs.declared.alloc.Global.{Global}
-use Rattle.mc_top.specs.Serve.{Due, answer, source_of, due_from, Gives, IsStatus, status_of, due_of, due_for, source_limit, most_bytes}
+use Rattle.mc_top.specs.Serve.{Due, answer, due_unless, run_limit, source_of, due_from, Gives, IsStatus, status_of, due_of, due_for, source_limit, most_bytes}
 use Rattle.mc_top.specs.Documents.{Spelled, circuit}
 
 pub due_within : (task : Asked) (input : List ℕ) → length input ≤ 8388608 →
@@ -78,3 +80,14 @@ of_task (Some task) P Q h p = h task p
 -- a count that is always 0 does not rise
 pub never_rose : Rose 0 0 → ⊥
 never_rose h = omega arith
+
+-- the text of a run within its limit, and the end of one past it
+pub run_ok : (limit : Option (ℕ × ℕ)) (text : List ℕ) (made : Vec ℕ Global) → limit ≡ None →
+    made.items ≡ text → Gives (Ok made) (due_unless (run_limit limit) (answer text))
+run_ok limit text made within e = rw within (ap answer (sym e))
+
+pub run_err : (limit : Option (ℕ × ℕ)) (due : Due) (given : RunEnd) →
+    ((which found : ℕ) → given ≡ run.Limit which found → limit ≡ Some (which, found)) →
+    Gives (Err (end_of_run given)) (due_unless (run_limit limit) due)
+run_err limit due (run.Limit which found) h = rw (h which found refl) refl
+run_err limit due run.Memory h = tt

@@ -35,13 +35,15 @@ abbrev pub is_outcome : ℕ → Bool
 is_outcome digit = nat_eq digit 48 || is_one digit
 
 -- one to 256 outcomes
+abbrev pub is_count : ℕ → Bool
+is_count n = nat_le 1 n && nat_le n 256
+
 abbrev pub are_outcomes : List ℕ → Bool
-are_outcomes digits =
-    nat_le 1 (length digits) && (nat_le (length digits) 256 && list_all is_outcome digits)
+are_outcomes digits = is_count (length digits) && list_all is_outcome digits
 
 -- what the words ask for
 abbrev pub asked_in : List (List ℕ) → Option Asked
-asked_in (word ∷ []) = find (λ asked. pointwise nat_eq (asked_by asked) word) alone
+asked_in (word ∷ []) = find (λ asked. pointwise nat_eq word (asked_by asked)) alone
 asked_in (word ∷ digits ∷ []) =
     if pointwise nat_eq word (codes "run") && are_outcomes digits
     then Some (run_branch (map is_one digits)) else None

@@ -1,10 +1,10 @@
 //! The words that the command knows.
 
-ghost use Rattle.std.specs.Prelude.{◌≡◌, ◌&&◌, None, Some, if◌then◌else◌, nat_eq, map, codes};
+ghost use Rattle.std.specs.Prelude.{◌≡◌, [], ◌∷◌, map};
+ghost use Rattle.std.specs.List.{list_all};
 ghost use Rattle.std.specs.Option.{option_map};
 ghost use Rattle.std.specs.String.{string_bytes};
-ghost use Rattle.std.specs.Cmp.Lexicographic.{pointwise};
-ghost use Rattle.mc_top.specs.Tasks.{are_outcomes, asked_in, is_one, plain_task, run_branch};
+ghost use Rattle.mc_top.specs.Tasks.{are_outcomes, asked_in, is_count, is_outcome, plain_task};
 ghost use Rattle.mc_top.specs.Serve.{takes_of};
 
 use crate::takes::Takes;
@@ -44,23 +44,47 @@ impl<'w> Task<'w> {
 fn task_of_word<'w>(word: &[u8]) -> Option<Task<'w>>
     ensures { option_map plain_task result ≡ asked_in (word.now ∷ []) }
 {
-    match word {
-        b"translate" => Some(Task::Translate),
-        b"print" => Some(Task::Print),
-        b"standard" => Some(Task::Standard),
-        b"shift" => Some(Task::Shift),
-        b"run" => Some(Task::Run),
-        _ => None,
+    if word == b"translate".as_slice() {
+        return Some(Task::Translate);
     }
+    if word == b"print".as_slice() {
+        return Some(Task::Print);
+    }
+    if word == b"standard".as_slice() {
+        return Some(Task::Standard);
+    }
+    if word == b"shift".as_slice() {
+        return Some(Task::Shift);
+    }
+    if word == b"run".as_slice() {
+        return Some(Task::Run);
+    }
+    None
+}
+
+fn is_outcome(digit: u8) -> bool
+    ensures { result ≡ is_outcome digit }
+{
+    digit == b'0' || digit == b'1'
+}
+
+fn all_outcomes(digits: &[u8]) -> bool
+    ensures { result ≡ list_all is_outcome digits.now }
+{
+    digits.iter().all(|digit| is_outcome(*digit))
+}
+
+fn is_count(count: usize) -> bool
+    ensures { result ≡ is_count count }
+{
+    1 <= count && count <= 256
 }
 
 /// Whether a word is one to 256 outcomes.
 fn are_outcomes(digits: &[u8]) -> bool
     ensures { result ≡ are_outcomes digits.now }
 {
-    !digits.is_empty()
-        && digits.len() <= 256
-        && digits.iter().all(|digit| *digit == b'0' || *digit == b'1')
+    is_count(digits.len()) && all_outcomes(digits)
 }
 
 /// The task that a word with outcomes behind it asks for.

@@ -22,10 +22,10 @@ const MOST_BYTES: usize = 8_388_608;
 
 /// Reads the whole source and makes the whole answer, and writes it.
 fn run<S: Source, K: Sink>(alloc: Global, task: Task<'_>, source: &mut S, out: &mut K) -> Status
-    ensures status { IfSome (S.left source.old) (λ input. IsStatus (due_of (plain_task task) input) result) }
-    ensures written { IfSome (S.left source.old) (λ input. Writes result (K.written out.old) (K.written out.new) (due_of (plain_task task) input)) }
+    ensures status { IfSome (S.left source.old) (λ input. IsStatus (due_of (plain_task task.entry) input) result) }
+    ensures written { IfSome (S.left source.old) (λ input. Writes result (K.written out.old) (K.written out.new) (due_of (plain_task task.entry) input)) }
     ensures untouched { IsUnwritten result → out.new ≡ out.old }
-    ensures meaning { result ≡ Status.Done → IfSome (S.left source.old) (λ input. Means (plain_task task) input) }
+    ensures meaning { result ≡ Status.Done → IfSome (S.left source.old) (λ input. Means (plain_task task.entry) input) }
     ensures read { result ≡ Status.ReadFault → Rose (S.faults source.old) (S.faults source.new) }
     ensures write { result ≡ Status.WriteFault → Rose (K.faults out.old) (K.faults out.new) }
     ensures all_read { IsAnswered result → IsAtEnd (S.left source.new) }

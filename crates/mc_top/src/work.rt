@@ -20,8 +20,8 @@ use std::alloc::Global;
 /// The answer of a task to a text.
 pub(crate) fn answer(alloc: Global, task: Task<'_>, text: &[u8]) -> Result<Vec<u8>, TextEnd>
     requires { length text.now ≤ 8_388_608 }
-    ensures due { Gives result (due_for (plain_task task) text.now) }
-    ensures meaning { OnOk result (Means (plain_task task) text.now) }
+    ensures due { Gives result (due_for (plain_task task.entry) text.now) }
+    ensures meaning { OnOk result (Means (plain_task task.entry) text.now) }
 {
     match read_document(alloc, text, task.takes()) {
         Ok(document) => answer_document(alloc, task, first_place(text), document),
@@ -37,8 +37,8 @@ fn answer_document(
     document: Document<4>,
 ) -> Result<Vec<u8>, TextEnd>
     requires { Fits document }
-    ensures due { Gives result (due_document (plain_task task) place (plain_document document)) }
-    ensures meaning { OnOk result (MeansOf (plain_task task) (plain_document document)) }
+    ensures due { Gives result (due_document (plain_task task.entry) place (plain_document document)) }
+    ensures meaning { OnOk result (MeansOf (plain_task task.entry) (plain_document document)) }
 {
     match task {
         Task::Translate => answer_translate(alloc, document),
