@@ -1,2 +1,5 @@
 pub mod Reducing
 mod Printing
+mod Grids
+mod Phases
+mod Meant
