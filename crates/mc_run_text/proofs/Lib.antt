@@ -3,3 +3,4 @@ mod Printing
 mod Grids
 mod Phases
 mod Meant
+mod Setting
