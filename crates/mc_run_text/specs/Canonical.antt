@@ -68,16 +68,16 @@ branch_lines half measured r i =
     ∷ amplitude_lines half (table_at r i)
 
 -- whether a branch has no phase
-abbrev pub lacks_phase : ℕ → ReportValue → Bool
-lacks_phase count r = list_any (λ i. is_none (phase_at r i)) (numbers_from 0 count)
+abbrev pub is_any_apart : ℕ → ReportValue → Bool
+is_any_apart count r = list_any (λ i. is_none (phase_at r i)) (numbers_from 0 count)
 
 -- whether all branches are alike
 abbrev pub alike_line : Bool → Line
-alike_line apart = codes "alike" ∷ cond apart (codes "no") (codes "yes") ∷ []
+alike_line is_apart = codes "alike" ∷ cond is_apart (codes "no") (codes "yes") ∷ []
 
 -- all branches, by rising outcomes
 abbrev pub report_text : ℕ → ℕ → ReportValue → List ℕ
 report_text half measured r =
     text_of ((codes "branches" ∷ codes "1" ∷ [])
     ∷ (flat_map (branch_lines half measured r) (numbers_from 0 (2 ^ measured))
-    ++ alike_line (lacks_phase (2 ^ measured) r) ∷ (codes "end" ∷ []) ∷ []))
+    ++ alike_line (is_any_apart (2 ^ measured) r) ∷ (codes "end" ∷ []) ∷ []))

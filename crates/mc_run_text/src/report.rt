@@ -6,7 +6,7 @@ ghost use Rattle.mc_model.specs.Steps.{is_permitted};
 ghost use Rattle.mc_model.specs.Numbers.{numbers_from};
 ghost use Rattle.mc_run.specs.Settings.{spelled};
 ghost use Rattle.mc_write.specs.Text.{line_text, text_of};
-ghost use Rattle.mc_run_text.specs.Canonical.{bits_word, phase_word, branch_lines, lacks_phase, alike_line, report_text};
+ghost use Rattle.mc_run_text.specs.Canonical.{bits_word, phase_word, branch_lines, is_any_apart, alike_line, report_text};
 
 use crate::bits::add_digits;
 use crate::print::{print_amplitudes, print_end};
@@ -84,8 +84,8 @@ fn print_branches<const H: usize>(
 }
 
 /// Whether a branch has no phase.
-fn lacks_phase<const H: usize>(report: &Report<H>) -> bool
-    ensures { result ≡ lacks_phase (length report.now.tables) report.now }
+fn is_any_apart<const H: usize>(report: &Report<H>) -> bool
+    ensures { result ≡ is_any_apart (length report.now.tables) report.now }
 {
     'branches: for i in 0..report.branches() {
         if report.phase(i).is_none() {
@@ -95,11 +95,11 @@ fn lacks_phase<const H: usize>(report: &Report<H>) -> bool
     false
 }
 
-fn print_alike(text: &mut Vec<u8>, apart: bool) -> Result<(), Memory>
-    ensures { OnOk result (text.new.items ≡ text.old.items ++ line_text (alike_line apart)) }
+fn print_alike(text: &mut Vec<u8>, is_apart: bool) -> Result<(), Memory>
+    ensures { OnOk result (text.new.items ≡ text.old.items ++ line_text (alike_line is_apart)) }
 {
     start_line(text, b"alike")?;
-    if apart {
+    if is_apart {
         add_word(text, b"no")?;
     } else {
         add_word(text, b"yes")?;
@@ -121,7 +121,7 @@ pub fn print_report<const H: usize>(
     let mut text = Vec::new(alloc);
     print_header(&mut text)?;
     print_branches(&mut text, report, measured)?;
-    print_alike(&mut text, lacks_phase(report))?;
+    print_alike(&mut text, is_any_apart(report))?;
     print_end(&mut text)?;
     Ok(text)
 }
