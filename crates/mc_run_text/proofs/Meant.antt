@@ -67,7 +67,7 @@ branch_same half p outcomes o t e is =
 
 -- ---- reports
 
-module _ (half : ℕ) (p : Pattern) (r : ReportValue) (is : IsReportOf half p r) 
+module _ (half : ℕ) (p : Pattern) (r : ReportValue) (is : IsReportOf half p r)
     (all : (i : ℕ) → i < length r.tables → IsTable (table_at r i)) where
   table_is : (i : ℕ) → i < 2 ^ measured_count p →
       IsTableOf {half = half} (length p.outputs) p.inputs (pattern_scale p)

@@ -65,8 +65,10 @@ fn print_one<const H: usize>(
         text.old.items ++ text_of (branch_lines H measured report.now number)) }
     ensures long { OnOk result (IsTable (table_at report.now number)) }
 {
+    let table = report.branch(number);
+    table.known();
     print_name(text, measured, number, report.phase(number))?;
-    print_amplitudes(text, report.branch(number))
+    print_amplitudes(text, table)
 }
 
 fn print_branches<const H: usize>(
