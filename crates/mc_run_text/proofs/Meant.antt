@@ -1,7 +1,6 @@
 -- What is printed of a table is what its circuit or pattern means.
-use Rattle.std.proofs.Common.{◌≡◌, ℕ, ◌+◌, ◌*◌, ◌^◌, ◌<◌, ◌≤◌, Bool, List, [], ◌∷◌, ◌++◌, map, length, slice_index_or, refl, sym, subst, ap, ap₂, ◌∙◌, ℤ, arith}
-use Rattle.std.specs.Prelude.{codes, Option, None}
-use Rattle.std.specs.List.{flat_map}
+use Rattle.std.proofs.Common.{◌≡◌, ℕ, ◌*◌, ◌^◌, ◌<◌, Bool, List, [], ◌∷◌, ◌++◌, map, length, slice_index_or, sym, subst, ap, ap₂, ◌∙◌, ℤ, arith}
+use Rattle.std.specs.Prelude.{codes, None}
 use Rattle.std.specs.Option.{is_none}
 use Rattle.mc_write.specs.Text.{Line, text_of}
 use Rattle.mc_model.specs.Bits.{Bits}
@@ -14,8 +13,8 @@ use Rattle.mc_run.specs.Settings.{spelled}
 use Rattle.mc_run.specs.Tables.{TableValue, entry_at, IsTable, IsTableOf}
 use Rattle.mc_run.specs.Reports.{ReportValue, IsReportOf, IsLeastPhase, measured_order, outcomes_of}
 use Rattle.mc_run_text.specs.Canonical.{bits_word, reduced_words, amplitude_lines, table_text, branch_text, phase_word, table_at, phase_at, branch_lines, alike_line, report_text}
-use Rattle.mc_run_text.specs.Runs.{entry_of, map_lines, entries_of, circuit_run, branch_map_lines, branch_run, least_phase, branch_entries, branch_phase, one_run, is_unlike, all_runs}
-use Rattle.mc_run_text.proofs.Grids.{grid, grid_same, listed, squares, flat_on, any_on}
+use Rattle.mc_run_text.specs.Runs.{entry_of, map_lines, entries_of, circuit_run, branch_map_lines, branch_run, branch_entries, branch_phase, one_run, all_runs}
+use Rattle.mc_run_text.proofs.Grids.{grid_same, listed, squares, flat_on, any_on}
 use Rattle.mc_run_text.proofs.Phases.{least_is, one_least}
 
 line_of : ℕ → ℕ → ℕ → List ℤ → ℕ → ℕ → ℕ → Line

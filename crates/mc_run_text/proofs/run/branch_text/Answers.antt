@@ -1,5 +1,4 @@
-use Rattle.std.proofs.Common.{◌≡◌, ap, ◌∙◌}
-use Rattle.std.specs.Prelude.{Err}
+use Rattle.std.proofs.Common.{◌∙◌}
 use Rattle.mc_signal.specs.Outcomes.{bits_of}
 use Rattle.mc_run_text.proofs.Meant.{branch_same}
 use Rattle.mc_run_text.proofs.run.branch_text.Goals as goal

@@ -1,4 +1,4 @@
-use Rattle.std.proofs.Common.{◌≡◌, ap, ◌∙◌}
+use Rattle.std.proofs.Common.{ap, ◌∙◌}
 use Rattle.std.specs.Prelude.{Err}
 use Rattle.mc_run_text.proofs.Meant.{circuit_same}
 use Rattle.mc_run_text.proofs.run.run_circuit_text.Goals as goal
