@@ -41,7 +41,7 @@ fn measured_order<const H: usize>(
     Ok(order)
 }
 
-/// Sets the outcomes of the listed qubits, of which none is listed twice or the first counts.
+/// Sets the outcomes of the listed qubits; where one is listed twice, the first counts.
 fn set_outcomes(values: &mut Outcomes, qubits: &[u16], outcomes: &[bool])
     requires clear { bits_of values.old ≡ all_zero }
     requires below { All (λ q. q < length values.old) qubits.now }

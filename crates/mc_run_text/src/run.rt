@@ -39,7 +39,7 @@ pub fn run_circuit_text<const H: usize>(
 }
 
 /// The most qubits and inputs of a branch together.
-const MOST_SIZE: usize = 16;
+const MOST_SIZE: u16 = 16;
 
 /// The most commands of a pattern that is run.
 const MOST_COMMANDS: usize = 256;
@@ -52,7 +52,7 @@ fn branch_end<const H: usize>(pattern: &Pattern<H>) -> Option<RunEnd>
 {
     let size = pattern.names().len() + pattern.inputs();
     let count = pattern.commands().len();
-    if size as usize > MOST_SIZE {
+    if size > MOST_SIZE {
         Some(RunEnd::Limit {
             which: 4,
             found: size as u64,
@@ -118,10 +118,7 @@ pub fn run_branch_text<const H: usize>(
 /// amplitudes of its map (Danos, Kashefi and Panangaden 2007), reduced; then whether all are alike. `Limit` comes exactly
 /// where qubits, inputs and measured qubits together are more than 16, by the number 4, or else the commands are more than
 /// 256, by the number 5.
-pub fn run_all_text<const H: usize>(
-    alloc: Global,
-    pattern: &Pattern<H>,
-) -> Result<Vec<u8>, RunEnd>
+pub fn run_all_text<const H: usize>(alloc: Global, pattern: &Pattern<H>) -> Result<Vec<u8>, RunEnd>
     requires { IsTrue (is_permitted H) }
     ensures text { IfOk result (λ text. text.items ≡ all_runs H pattern.now) }
     ensures limit { (which found : ℕ) → (result ≡ Err (RunEnd.Limit which found)) ↔
