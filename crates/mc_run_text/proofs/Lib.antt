@@ -1,2 +1,6 @@
 pub mod Reducing
 mod Printing
+mod Grids
+mod Phases
+mod Meant
+mod Setting

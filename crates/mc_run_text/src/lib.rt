@@ -3,11 +3,14 @@
 
 mod bits;
 mod laws;
+mod outcomes;
 mod print;
 mod report;
+mod run;
 #[cfg(test)]
 mod tests;
 
-pub use laws::amplitudes_are_reduced;
+pub use laws::{amplitudes_are_reduced, phases_are_least};
 pub use print::{print_branch, print_table};
 pub use report::print_report;
+pub use run::{run_branch_text, run_circuit_text};

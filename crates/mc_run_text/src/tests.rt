@@ -194,3 +194,42 @@ end
     );
     Ok(())
 }
+
+#[test]
+fn runs_a_circuit(rt: HostRuntime) -> Result<(), Fail> {
+    let alloc = rt.alloc();
+    let text = run_circuit_text(alloc, &circuit(&rt, alloc)?)?;
+    assert_eq!(rt;
+        text.as_slice(),
+        b"table 1
+amp 0 0 1 0 0 0 / 1
+amp 1 0 1 0 0 0 / 1
+amp 0 1 0 1 0 0 / 1
+amp 1 1 0 -1 0 0 / 1
+end
+"
+            .as_slice()
+    );
+    Ok(())
+}
+
+#[test]
+fn runs_a_branch(rt: HostRuntime) -> Result<(), Fail> {
+    let alloc = rt.alloc();
+    let pattern = measured(&rt, alloc, false)?;
+    assert_eq!(rt; pattern.measured(), 1);
+    let text = run_branch_text(alloc, &pattern, &[true])?;
+    assert_eq!(rt;
+        text.as_slice(),
+        b"table 1
+branch 1
+amp 0 0 1 0 0 0 / 2
+amp 1 0 1 0 0 0 / 2
+amp 0 1 0 -1 0 0 / 2
+amp 1 1 0 1 0 0 / 2
+end
+"
+            .as_slice()
+    );
+    Ok(())
+}

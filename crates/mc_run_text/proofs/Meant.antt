@@ -1,0 +1,63 @@
+-- What is printed of a table is what its circuit or pattern means.
+use Rattle.std.proofs.Common.{◌≡◌, ℕ, ◌*◌, ◌^◌, Bool, List, [], ◌∷◌, ◌++◌, map, length, slice_index_or, sym, ap, ap₂, ◌∙◌, ℤ, arith}
+use Rattle.std.specs.Prelude.{codes}
+use Rattle.mc_write.specs.Text.{Line, text_of}
+use Rattle.mc_model.specs.Bits.{Bits}
+use Rattle.mc_model.specs.Numbers.{numbers_from}
+use Rattle.mc_model.specs.Ring.{Element, ring}
+use Rattle.mc_model.specs.Pattern.{Pattern, Circuit}
+use Rattle.mc_model.specs.Amplitude.{placed, branch_map, circuit_table, pattern_scale, circuit_scale}
+use Rattle.mc_run.specs.Settings.{spelled}
+use Rattle.mc_run.specs.Tables.{TableValue, entry_at, IsTableOf}
+use Rattle.mc_run.specs.Reports.{measured_order}
+use Rattle.mc_run_text.specs.Canonical.{bits_word, reduced_words, amplitude_lines, table_text, branch_text}
+use Rattle.mc_run_text.specs.Runs.{entry_of, map_lines, entries_of, circuit_run, branch_map_lines, branch_run}
+use Rattle.mc_run_text.proofs.Grids.{grid_same, listed, squares}
+
+line_of : ℕ → ℕ → ℕ → List ℤ → ℕ → ℕ → ℕ → Line
+line_of half outputs inputs entry halves y b =
+    codes "amp" ∷ bits_word (spelled outputs y) ∷ bits_word (spelled inputs b)
+    ∷ reduced_words half entry halves
+
+module _ (half outputs inputs halves : ℕ) (amplitude : List Bool → Bits → Element half)
+    (t : TableValue) (is : IsTableOf {half = half} outputs inputs halves amplitude t) where
+  pub lines_same : amplitude_lines half t ≡ map_lines half outputs inputs halves amplitude
+  unfolding line_of
+  lines_same =
+      grid_same t.outputs t.inputs outputs inputs
+      (λ y b. line_of half t.outputs t.inputs (entry_at t y b) t.halves y b)
+      (λ y b. line_of half outputs inputs (entry_of outputs inputs amplitude y b) halves y b)
+      is.outputs_are is.inputs_are
+      (λ y b h k.
+      ap₂ (λ o i. line_of half o i (entry_at t y b) t.halves y b) is.outputs_are is.inputs_are
+      ∙ ap₂ (λ e n. line_of half outputs inputs e n y b) (is.entries_are y b h k) is.halves_are)
+
+  pub entries_same : length t.entries ≡ 2 ^ t.inputs * 2 ^ t.outputs →
+      t.entries ≡ entries_of outputs inputs amplitude
+  entries_same long =
+      let g : ℕ → List ℤ = λ i. slice_index_or t.entries i [] in
+      let z : 0 * 2 ^ t.outputs ≡ 0 = omega arith in
+      listed t.entries []
+      ∙ ap (λ n. map g (numbers_from 0 n)) long
+      ∙ ap (λ q. map g (numbers_from q (2 ^ t.inputs * 2 ^ t.outputs))) (sym z)
+      ∙ sym (squares g (2 ^ t.outputs) 0 (2 ^ t.inputs))
+      ∙ grid_same t.outputs t.inputs outputs inputs (λ y b. entry_at t y b)
+      (λ y b. entry_of outputs inputs amplitude y b) is.outputs_are is.inputs_are is.entries_are
+
+pub circuit_same : (half : ℕ) (c : Circuit) (t : TableValue) →
+    IsTableOf {half = half} (length c.outputs) c.inputs (circuit_scale c)
+    (circuit_table (ring half) c) t → table_text half t ≡ circuit_run half c
+circuit_same half c t is =
+    ap (λ lines. text_of ((codes "table" ∷ codes "1" ∷ []) ∷ (lines ++ (codes "end" ∷ []) ∷ [])))
+    (lines_same half (length c.outputs) c.inputs (circuit_scale c) (circuit_table (ring half) c) t
+    is)
+
+pub branch_same : (half : ℕ) (p : Pattern) (outcomes : List Bool) (o : Bits) (t : TableValue) →
+    o ≡ placed (measured_order p.commands) outcomes →
+    IsTableOf {half = half} (length p.outputs) p.inputs (pattern_scale p)
+    (branch_map (ring half) p o) t → branch_text half outcomes t ≡ branch_run half p outcomes
+branch_same half p outcomes o t e is =
+    ap (λ lines. text_of ((codes "table" ∷ codes "1" ∷ [])
+    ∷ (codes "branch" ∷ bits_word outcomes ∷ []) ∷ (lines ++ (codes "end" ∷ []) ∷ [])))
+    (lines_same half (length p.outputs) p.inputs (pattern_scale p) (branch_map (ring half) p o) t is
+    ∙ ap (branch_map_lines half p) e)
