@@ -17,6 +17,7 @@ mod table;
 #[cfg(test)]
 mod tests;
 mod vector;
+mod whole;
 
 pub use branch::run_branch;
 pub use circuit::run_circuit;

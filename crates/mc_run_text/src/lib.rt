@@ -13,4 +13,4 @@ mod tests;
 pub use laws::{amplitudes_are_reduced, phases_are_least};
 pub use print::{print_branch, print_table};
 pub use report::print_report;
-pub use run::{run_branch_text, run_circuit_text};
+pub use run::{run_all_text, run_branch_text, run_circuit_text};

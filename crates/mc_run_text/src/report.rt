@@ -1,12 +1,13 @@
 //! Printing reports on all branches.
 
-ghost use Rattle.std.specs.Prelude.{◌≡◌, ◌++◌, ◌∷◌, [], ◌<◌, ◌^◌, IfOk, OnOk, IsTrue, Option, length, codes};
+ghost use Rattle.std.specs.Prelude.{◌≡◌, ℕ, ◌++◌, ◌∷◌, [], ◌<◌, ◌^◌, IfOk, OnOk, IsTrue, Option, length, codes};
 ghost use Rattle.std.specs.List.{flat_map};
 ghost use Rattle.mc_model.specs.Steps.{is_permitted};
 ghost use Rattle.mc_model.specs.Numbers.{numbers_from};
 ghost use Rattle.mc_run.specs.Settings.{spelled};
+ghost use Rattle.mc_run.specs.Tables.{IsTable};
 ghost use Rattle.mc_write.specs.Text.{line_text, text_of};
-ghost use Rattle.mc_run_text.specs.Canonical.{bits_word, phase_word, branch_lines, is_any_apart, alike_line, report_text};
+ghost use Rattle.mc_run_text.specs.Canonical.{bits_word, phase_word, table_at, branch_lines, is_any_apart, alike_line, report_text};
 
 use crate::bits::add_digits;
 use crate::print::{print_amplitudes, print_end};
@@ -60,11 +61,14 @@ fn print_one<const H: usize>(
     requires permitted { IsTrue (is_permitted H) }
     requires few { measured < 64 }
     requires within { number < length report.now.tables }
-    ensures { OnOk result (text.new.items ≡
+    ensures lines { OnOk result (text.new.items ≡
         text.old.items ++ text_of (branch_lines H measured report.now number)) }
+    ensures long { OnOk result (IsTable (table_at report.now number)) }
 {
+    let table = report.branch(number);
+    table.known();
     print_name(text, measured, number, report.phase(number))?;
-    print_amplitudes(text, report.branch(number))
+    print_amplitudes(text, table)
 }
 
 fn print_branches<const H: usize>(
@@ -74,8 +78,9 @@ fn print_branches<const H: usize>(
 ) -> Result<(), Memory>
     requires permitted { IsTrue (is_permitted H) }
     requires count { length report.now.tables ≡ 2 ^ measured }
-    ensures { OnOk result (text.new.items ≡ text.old.items ++ text_of
+    ensures lines { OnOk result (text.new.items ≡ text.old.items ++ text_of
         (flat_map (branch_lines H measured report.now) (numbers_from 0 (2 ^ measured)))) }
+    ensures long { OnOk result ((i : ℕ) → i < length report.now.tables → IsTable (table_at report.now i)) }
 {
     'branches: for i in 0..report.branches() {
         print_one(text, report, measured, i)?;
@@ -116,7 +121,8 @@ pub fn print_report<const H: usize>(
 ) -> Result<Vec<u8>, Memory>
     requires permitted { IsTrue (is_permitted H) }
     requires count { length report.now.tables ≡ 2 ^ measured }
-    ensures { IfOk result (λ text. text.items ≡ report_text H measured report.now) }
+    ensures text { IfOk result (λ text. text.items ≡ report_text H measured report.now) }
+    ensures long { IfOk result (λ text. (i : ℕ) → i < length report.now.tables → IsTable (table_at report.now i)) }
 {
     let mut text = Vec::new(alloc);
     print_header(&mut text)?;

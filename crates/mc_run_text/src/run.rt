@@ -3,15 +3,16 @@
 ghost use Rattle.std.specs.Prelude.{◌≡◌, ◌↔◌, ℕ, IfOk, IfSome, OnOk, Err, IsTrue, MatchOption, None, Some, length};
 ghost use Rattle.mc_model.specs.Steps.{is_permitted};
 ghost use Rattle.mc_pattern.specs.Patterns.{measured_count};
-ghost use Rattle.mc_run.specs.Limits.{circuit_limit, branch_limit};
-ghost use Rattle.mc_run_text.specs.Runs.{circuit_run, branch_run};
+ghost use Rattle.mc_run.specs.Limits.{circuit_limit, branch_limit, all_limit};
+ghost use Rattle.mc_run_text.specs.Runs.{circuit_run, branch_run, all_runs};
 
 use crate::outcomes::outcomes_in_order;
 use crate::print::{print_branch, print_table};
+use crate::report::print_report;
 use mc_circuit::Circuit;
 use mc_model::Memory;
 use mc_pattern::Pattern;
-use mc_run::{RunEnd, run_branch, run_circuit};
+use mc_run::{RunEnd, run_all, run_branch, run_circuit};
 use std::alloc::Global;
 
 /// The text of the table of a circuit: the amplitudes of its meaning (Danos, Kashefi and Panangaden 2007), reduced. `Limit`
@@ -111,4 +112,25 @@ pub fn run_branch_text<const H: usize>(
         return Err(end);
     }
     branch_text(alloc, pattern, outcomes)
+}
+
+/// The text of the report on all branches of a pattern: of each its outcomes, the least phase from the first branch, and the
+/// amplitudes of its map (Danos, Kashefi and Panangaden 2007), reduced; then whether all are alike. `Limit` comes exactly
+/// where qubits, inputs and measured qubits together are more than 16, by the number 4, or else the commands are more than
+/// 256, by the number 5.
+pub fn run_all_text<const H: usize>(alloc: Global, pattern: &Pattern<H>) -> Result<Vec<u8>, RunEnd>
+    requires { IsTrue (is_permitted H) }
+    ensures text { IfOk result (λ text. text.items ≡ all_runs H pattern.now) }
+    ensures limit { (which found : ℕ) → (result ≡ Err (RunEnd.Limit which found)) ↔
+        (all_limit pattern.now ≡ Some (which, found)) }
+    ensures within { OnOk result (all_limit pattern.now ≡ None) }
+    ensures memory_last { result ≡ Err RunEnd.Memory → all_limit pattern.now ≡ None }
+{
+    match run_all(alloc, pattern) {
+        Ok(report) => match print_report(alloc, &report, pattern.measured()) {
+            Ok(text) => Ok(text),
+            Err(Memory) => Err(RunEnd::Memory),
+        },
+        Err(end) => Err(end),
+    }
 }

@@ -233,3 +233,28 @@ end
     );
     Ok(())
 }
+
+#[test]
+fn runs_all_branches(rt: HostRuntime) -> Result<(), Fail> {
+    let alloc = rt.alloc();
+    let text = run_all_text(alloc, &measured(&rt, alloc, true)?)?;
+    assert_eq!(rt;
+        text.as_slice(),
+        b"branches 1
+branch 0 phase 0
+amp 0 0 1 0 0 0 / 2
+amp 1 0 1 0 0 0 / 2
+amp 0 1 0 1 0 0 / 2
+amp 1 1 0 -1 0 0 / 2
+branch 1 phase 0
+amp 0 0 1 0 0 0 / 2
+amp 1 0 1 0 0 0 / 2
+amp 0 1 0 1 0 0 / 2
+amp 1 1 0 -1 0 0 / 2
+alike yes
+end
+"
+            .as_slice()
+    );
+    Ok(())
+}
