@@ -70,8 +70,8 @@ all_done : (m : Bits) (n : ℕ) (qs : List ℕ) → ((q : ℕ) → m q ≡ true 
 all_done m n [] h d = All-nil (λ r. r < n)
 all_done m n (q ∷ qs) h d = All-cons (λ r. r < n) q qs (h q d.0) (all_done m n qs h d.1)
 
-pub command_left_at : {C : Type 0} (plain : C → Command) (cs : List C) (i : ℕ) (c : C)
-    (ring : Exact) (Is : List ℤ → Type 0) (o : Bits) (inputs : ℕ) (all : List Command) (end : Amps (List ℤ))
+pub command_left_at : {C : Type 0} (plain : C → Command) (cs : List C) (i : ℕ) (c : C) (ring : Exact)
+    (Is : List ℤ → Type 0) (o : Bits) (inputs : ℕ) (all : List Command) (end : Amps (List ℤ))
     (live : List ℕ) (v : List (List ℤ)) → i < length cs → c ≡ slice_index_or cs i c →
     CommandsLeft ring Is o inputs all end (map plain (drop i cs)) live v →
     CommandsLeft ring Is o inputs all end (plain c ∷ map plain (drop (i + 1) cs)) live v
@@ -151,8 +151,7 @@ module _ (ring : Exact) (Is : List ℤ → Type 0) (laws : Obeys ring Is) (o : B
   command_next (Prep q) left next here long stepped =
       let fits = valid.at here.done (Prep q) left here.split in
       kept (Prep q) left next (q ∷ live) here (λ k. refl)
-      (prep_next q here.height here.amps next here.holds (here.ignores q (omega arith)) long
-      stepped)
+      (prep_next q here.height here.amps next here.holds (here.ignores q (omega arith)) long stepped)
       (omega arith) living here.rest
     where
       living : (r : ℕ) → r < inputs + (prepared here.done + 1) → measured here.done r ≡ false →

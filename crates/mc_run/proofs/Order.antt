@@ -54,8 +54,7 @@ module _ (inputs : ℕ) (all : List Command) (valid : IsValid inputs all) where
   order_none (Meas r a s t ∷ left) before q e m =
       let c : Command = Meas r a s t in
       let live = (valid.at before c left e).0 in
-      let ne : q ≡ r → ⊥ =
-      λ f. true≢false (sym m ∙ ap (measured before) f ∙ live.is_not_measured) in
+      let ne : q ≡ r → ⊥ = λ f. true≢false (sym m ∙ ap (measured before) f ∙ live.is_not_measured) in
       let rest = order_none left (before ++ (c ∷ [])) q (split_on before c left e)
       (ap (λ f. f q) (next_measured before r a s t)
       ∙ replaced_other (measured before) r true q ne ∙ m) in

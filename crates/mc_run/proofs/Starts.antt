@@ -55,10 +55,8 @@ module _ (ring : Exact) (Is : List ℤ → Type 0) (laws : Obeys ring Is) where
   unfolding start
   none_holds b v e = subst (Holds ring Is [] 0 (start (phases ring) 0 b)) (sym e) (record {
     long = refl;
-    same = λ i h. (let z : 0 ≡ i = omega arith in
-        subst (λ j. entry (ring.one ∷ []) j ≡ ring.one) z refl);
-    element = λ i h. (let z : 0 ≡ i = omega arith in
-        subst (λ j. Is (entry (ring.one ∷ []) j)) z laws.one_is);
+    same = λ i h. (let z : 0 ≡ i = omega arith in subst (λ j. entry (ring.one ∷ []) j ≡ ring.one) z refl);
+    element = λ i h. (let z : 0 ≡ i = omega arith in subst (λ j. Is (entry (ring.one ∷ []) j)) z laws.one_is);
     low = λ i h. (let z : 0 ≡ i = omega arith in
         subst (λ j. ring.height (entry (ring.one ∷ []) j) ≤ 2 ^ 0) z laws.height_one);
   })

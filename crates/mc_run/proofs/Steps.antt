@@ -75,8 +75,7 @@ module _ (ring : Exact) (Is : List ℤ → Type 0) (laws : Obeys ring Is) (live 
   }
     where
       both : (i : ℕ) → i < length next →
-          (entry next i
-          ≡ cond (not (b ⊻ setting (q ∷ live) i q)) (f (setting (q ∷ live) i)) ring.nought)
+          (entry next i ≡ cond (not (b ⊻ setting (q ∷ live) i q)) (f (setting (q ∷ live) i)) ring.nought)
           × (ring.height (entry next i) ≤ 2 ^ height)
       both i h =
           let below = half_below i q (subst (λ n. i < n) long h) in

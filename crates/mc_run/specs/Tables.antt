@@ -21,8 +21,8 @@ pub record IsTable (t : TableValue) : Type 0 where
   pub long : length t.entries ≡ 2 ^ t.inputs * 2 ^ t.outputs
   pub small : t.outputs + t.inputs ≤ 16
 
--- the table of an amplitude for output bits and input bits, with the bits of the first output and
--- of the first input the most significant of the two numbers
+-- the table of an amplitude for output bits and input bits, with the bits of the first output and of
+-- the first input the most significant of the two numbers
 pub record IsTableOf {half : ℕ} (outputs inputs halves : ℕ)
     (amplitude : List Bool → Bits → Element half) (t : TableValue) : Type 0 where
   pub outputs_are : t.outputs ≡ outputs

@@ -21,8 +21,7 @@ impl<const H: usize> Model for Table<H> {
 
     ghost Value = { TableValue };
 
-    ghost view = { λ t.
-        record { outputs = t.outputs; inputs = t.inputs; halves = t.halves; entries = t.entries.items } };
+    ghost view = { λ t. record { outputs = t.outputs; inputs = t.inputs; halves = t.halves; entries = t.entries.items } };
 
     ghost invariant = { λ t. IsTable
         (record { outputs = t.outputs; inputs = t.inputs; halves = t.halves; entries = t.entries.items }) };

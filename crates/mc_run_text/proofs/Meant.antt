@@ -52,7 +52,8 @@ pub circuit_same : (half : ℕ) (c : Circuit) (t : TableValue) →
     (circuit_table (ring half) c) t → table_text half t ≡ circuit_run half c
 circuit_same half c t is =
     ap (λ lines. text_of ((codes "table" ∷ codes "1" ∷ []) ∷ (lines ++ (codes "end" ∷ []) ∷ [])))
-    (lines_same half (length c.outputs) c.inputs (circuit_scale c) (circuit_table (ring half) c) t is)
+    (lines_same half (length c.outputs) c.inputs (circuit_scale c) (circuit_table (ring half) c) t
+    is)
 
 pub branch_same : (half : ℕ) (p : Pattern) (outcomes : List Bool) (o : Bits) (t : TableValue) →
     o ≡ placed (measured_order p.commands) outcomes →

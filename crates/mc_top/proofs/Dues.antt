@@ -1,6 +1,8 @@
 -- What is due for bytes within the limit.
-use Rattle.std.proofs.Common.{◌≡◌, ◌⊎◌, ℕ, ◌+◌, ◌<◌, ◌≤◌, List, length, Bool, true, false, nat_lt, Option, Some, None, Result, Ok, Err, IfOk, IfErr, refl, sym, subst, ap, inl, inr, ◌∙◌, arith}
+use Rattle.std.proofs.Common.{◌≡◌, ◌⊎◌, ℕ, ◌+◌, ◌<◌, ◌≤◌, List, length, length-map, map, Bool, true, false, nat_lt, Option, Some, None, Result, Ok, Err, IfOk, IfErr, refl, sym, subst, ap, inl, inr, ◌∙◌, arith}
 use Rattle.std.specs.Prelude.{IfSome}
+use Rattle.std.specs.Prelude.{nat_eq}
+use Rattle.std.proofs.lemmas.Bool.{eq-eqb}
 use Rattle.std.proofs.lemmas.Bool.Decides.{nat_tests}
 use Rattle.mc_top.specs.Tasks.{Asked}
 use Rattle.mc_lex.specs.declared.end.TextEnd.{TextEnd}
@@ -12,12 +14,18 @@ use Rattle.mc_top.specs.declared.status.Status.{Status}
 use Rattle.mc_top.specs.declared.status.Status.TheVariants as status
 use Rattle.mc_run.specs.declared.limit.RunEnd.{RunEnd}
 use Rattle.mc_run.specs.declared.limit.RunEnd.TheVariants as run
+use Rattle.mc_model.specs.Shift.{ChangeRow}
+use Rattle.mc_pattern.specs.Patterns.{measured_count}
+use Rattle.mc_run.specs.Limits.{branch_limit}
+use Rattle.mc_run_text.specs.Runs.{branch_run}
+use Rattle.mc_text.specs.Judged.{Place}
+use Rattle.mc_top.specs.Tasks.{is_one}
 use Rattle.mc_top.specs.Ends.{status_by_end, end_of_run}
 use Rattle.mc_model.specs.declared.memory.Memory.{Memory}
 use Rattle.std.specs.declared.vec.Vec.{Vec}
 use Rattle.std.specs.declared.alloc.Global.{Global}
-use Rattle.mc_top.specs.Serve.{Due, answer, due_unless, run_limit, source_of, due_from, Gives, IsStatus, status_of, due_of, due_for, source_limit, most_bytes}
-use Rattle.mc_top.specs.Documents.{Spelled, circuit}
+use Rattle.mc_top.specs.Serve.{Due, answer, due_branch, due_unless, run_limit, source_of, due_from, Gives, IsStatus, status_of, due_of, due_for, source_limit, most_bytes}
+use Rattle.mc_top.specs.Documents.{Spelled, circuit, pattern}
 
 pub due_within : (task : Asked) (input : List ℕ) → length input ≤ 8388608 →
     due_of task input ≡ due_for task input
@@ -91,3 +99,13 @@ pub run_err : (limit : Option (ℕ × ℕ)) (due : Due) (given : RunEnd) →
     Gives (Err (end_of_run given)) (due_unless (run_limit limit) due)
 run_err limit due (run.Limit which found) h = rw (h which found refl) refl
 run_err limit due run.Memory h = tt
+
+-- what is due for a branch with as many outcomes as measured qubits
+pub branch_due : (place : Place) (digits : List ℕ) (p : Pattern) (change : Option (List ChangeRow)) →
+    length digits ≡ measured_count p →
+    due_branch place (map is_one digits) (pattern p change)
+    ≡ due_unless (run_limit (branch_limit p)) (answer (branch_run 4 p (map is_one digits)))
+branch_due place digits p change long =
+    let same : nat_eq (length (map is_one digits)) (measured_count p) ≡ true =
+    eq-eqb (length (map is_one digits)) (measured_count p) (length-map is_one digits ∙ long) in
+    rw same refl

@@ -1,8 +1,11 @@
 //! Runs, as canonical texts.
 
-ghost use Rattle.std.specs.Prelude.{◌≡◌, None, IfOk, map};
+ghost use Rattle.std.specs.Prelude.{◌≡◌, None, IfOk, length, map};
+ghost use Rattle.mc_pattern.specs.Patterns.{measured_count};
+ghost use Rattle.mc_run.specs.Limits.{branch_limit};
+ghost use Rattle.mc_run_text.specs.Runs.{branch_run};
 ghost use Rattle.mc_top.specs.Ends.{end_of_run};
-ghost use Rattle.mc_top.specs.Serve.{Gives, due_branch, due_run};
+ghost use Rattle.mc_top.specs.Serve.{Gives, answer, due_branch, due_run, due_unless, run_limit};
 ghost use Rattle.mc_top.specs.Spelled.{plain_document};
 ghost use Rattle.mc_top.specs.Tasks.{is_one};
 ghost use Rattle.mc_top.specs.Documents.{circuit, pattern};
@@ -87,7 +90,19 @@ fn answer_outcomes(
         Ok(outcomes) => outcomes,
         Err(_) => return Err(TextEnd::Memory),
     };
-    match run_branch_text(alloc, source, outcomes.as_slice()) {
+    answer_values(alloc, source, outcomes.as_slice())
+}
+
+fn answer_values(
+    alloc: Global,
+    source: &Pattern<4>,
+    outcomes: &[bool],
+) -> Result<Vec<u8>, TextEnd>
+    requires { length outcomes.now ≡ measured_count source.now }
+    ensures { Gives result
+        (due_unless (run_limit (branch_limit source.now)) (answer (branch_run 4 source.now outcomes.now))) }
+{
+    match run_branch_text(alloc, source, outcomes) {
         Ok(text) => Ok(text),
         Err(end) => Err(text_end(end)),
     }

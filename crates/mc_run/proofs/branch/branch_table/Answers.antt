@@ -57,8 +57,8 @@ columns-preserved g c =
     let items : c.append.new.self.items ≡ c.columns.entries.items ++ c.in_ok-next.next.items =
     c.in-Ok.ensures.items in
     subst (Filled value (2 ^ length pattern.outputs) (b + 1)) (sym items)
-    (filled_more value (2 ^ length pattern.outputs) b c.columns.entries.items
-    c.in_ok-next.next.items c.columns.invariant long values)
+    (filled_more value (2 ^ length pattern.outputs) b c.columns.entries.items c.in_ok-next.next.items
+    c.columns.invariant long values)
 
 pub overflow_cast-result : goal.overflow_cast-result
 overflow_cast-result g c =

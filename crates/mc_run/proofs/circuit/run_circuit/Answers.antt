@@ -10,7 +10,6 @@ returns-in-Some-clause-limit g c = λ which found.
     let e : first_limit (c.len-count.result + c.inputs.result) 60 c.count_j-turns.result
     ≡ circuit_limit c.args.circuit.now =
     ap₂ (λ size count. first_limit size 60 count)
-    (ap₂ (λ m n. m + n) (c.len-count.ensures.len ∙ ap length c.names.ensures.names)
-    c.inputs.ensures)
+    (ap₂ (λ m n. m + n) (c.len-count.ensures.len ∙ ap length c.names.ensures.names) c.inputs.ensures)
     (c.count_j-turns.ensures ∙ ap j_count c.gates.ensures) in
     (λ s. sym e ∙ h.0 (cc), λ s. ap (λ x. Err x) (h.1 (e ∙ s)))

@@ -149,12 +149,11 @@ returns-clause-few g c =
     let v : List (List ℤ) = map seen c.commands.state.entries.items in
     let cs = c.commands-command-items.result.now in
     let none : drop c.commands.command-index cs ≡ [] = drop_all _ _ c.commands-test.false in
-    let over : CommandsLeft ring g.R.Ring.IsElement o pattern.inputs pattern.commands end []
-    live v =
+    let over : CommandsLeft ring g.R.Ring.IsElement o pattern.inputs pattern.commands end [] live v =
     subst (λ t. CommandsLeft ring g.R.Ring.IsElement o pattern.inputs pattern.commands end
     (map (plain_command {h = g.row.H}) t) live v) none c.commands.invariant in
-    few_live ring g.R.Ring.IsElement laws o pattern.inputs pattern.commands valid.commands end live
-    v [] over 16 (omega (arith, valid.qubits, c.requires.few))
+    few_live ring g.R.Ring.IsElement laws o pattern.inputs pattern.commands valid.commands end live v
+    [] over 16 (omega (arith, valid.qubits, c.requires.few))
 
 pub returns-clause-living : goal.returns-clause-living
 returns-clause-living g c = λ k d h.
@@ -178,13 +177,12 @@ returns-clause-living g c = λ k d h.
     let v : List (List ℤ) = map seen c.commands.state.entries.items in
     let cs = c.commands-command-items.result.now in
     let none : drop c.commands.command-index cs ≡ [] = drop_all _ _ c.commands-test.false in
-    let over : CommandsLeft ring g.R.Ring.IsElement o pattern.inputs pattern.commands end []
-    live v =
+    let over : CommandsLeft ring g.R.Ring.IsElement o pattern.inputs pattern.commands end [] live v =
     subst (λ t. CommandsLeft ring g.R.Ring.IsElement o pattern.inputs pattern.commands end
     (map (plain_command {h = g.row.H}) t) live v) none c.commands.invariant in
     let out = output_unmeasured pattern valid k d h in
-    live_over ring g.R.Ring.IsElement laws o pattern.inputs pattern.commands valid.commands end live
-    v over _ out.0 out.1
+    live_over ring g.R.Ring.IsElement laws o pattern.inputs pattern.commands valid.commands end live v
+    over _ out.0 out.1
 
 pub returns-clause-holds : goal.returns-clause-holds
 returns-clause-holds g c =
@@ -208,8 +206,7 @@ returns-clause-holds g c =
     let v : List (List ℤ) = map seen c.commands.state.entries.items in
     let cs = c.commands-command-items.result.now in
     let none : drop c.commands.command-index cs ≡ [] = drop_all _ _ c.commands-test.false in
-    let over : CommandsLeft ring g.R.Ring.IsElement o pattern.inputs pattern.commands end []
-    live v =
+    let over : CommandsLeft ring g.R.Ring.IsElement o pattern.inputs pattern.commands end [] live v =
     subst (λ t. CommandsLeft ring g.R.Ring.IsElement o pattern.inputs pattern.commands end
     (map (plain_command {h = g.row.H}) t) live v) none c.commands.invariant in
     commands_over ring g.R.Ring.IsElement laws o pattern.inputs pattern.commands valid.commands end

@@ -35,14 +35,12 @@ advanced-requires-clause-there g c = λ i h.
     let half : ℕ = g.R.PhaseRing.HALF in
     let v : List (List ℤ) = map seen c.args.state.entries.items in
     let e : v ≡ map seen c.deref-2.result.now = ap (map seen) (sym c.deref-2.ensures.value) in
-    let n : length v ≡ length c.args.state.entries.items =
-    length-map c.args.state.entries.items seen in
+    let n : length v ≡ length c.args.state.entries.items = length-map c.args.state.entries.items seen in
     let s : command_step half live o command ≡ c.step_of-step.result =
     sym (c.step_of-step.ensures.step
     ∙ ap₂ (λ k l. command_step k l o command) (sym c.requires.steps) c.deref.ensures.value) in
     subst (λ t. CanTake g.R.PhaseRing.height_of (map seen c.deref-2.result.now) (source half t i)) s
-    (subst (λ w. CanTake g.R.PhaseRing.height_of w
-    (source half (command_step half live o command) i)) e
+    (subst (λ w. CanTake g.R.PhaseRing.height_of w (source half (command_step half live o command) i)) e
     (command_there g.R.PhaseRing.height_of half live v (n ∙ c.requires.long) o command
     (length c.args.outcomes.now) c.requires.ready c.requires.low i
     (subst (λ l. i < 2 ^ length l) c.in_ok-live.ensures h)))

@@ -12,8 +12,7 @@ advanced-requires-clause-there g c = λ i h.
     let live : List ℕ = c.args.state.live.items in
     let v : List (List ℤ) = map seen c.args.state.entries.items in
     let e : v ≡ map seen c.deref-2.result.now = ap (map seen) (sym c.deref-2.ensures.value) in
-    let n : length v ≡ length c.args.state.entries.items =
-    length-map c.args.state.entries.items seen in
+    let n : length v ≡ length c.args.state.entries.items = length-map c.args.state.entries.items seen in
     let s : gate_step live (plain_gate c.args.gate.now) ≡ c.step_of-step.result =
     sym (c.step_of-step.ensures.step
     ∙ ap (λ l. gate_step l (plain_gate c.args.gate.now)) c.deref.ensures.value) in

@@ -13,8 +13,7 @@ tables-preserved g c =
     let P : ℕ → Option ℕ → Type 0 =
     (λ j e. (d : TableValue) → IsLeastPhase g.row.H (slice_index_or tables j d).entries
     (slice_index_or tables 0 d).entries e) in
-    let items : c.push.new.self.items ≡ c.tables.phases.items ++ phase ∷ [] =
-    c.in-Ok.ensures.items in
+    let items : c.push.new.self.items ≡ c.tables.phases.items ++ phase ∷ [] = c.in-Ok.ensures.items in
     let some : 0 < length tables = let h = c.tables-test.true in omega arith in
     let one : P c.tables.i phase = λ d.
     subst (λ x. IsLeastPhase g.row.H x (slice_index_or tables 0 d).entries phase)

@@ -15,6 +15,5 @@ returns-in-Some-clause-limit g c = λ which found.
     (ap₂ (λ m n. m + n)
     (ap₂ (λ m n. m + n) (c.len.ensures.len ∙ ap length c.names.ensures.names) c.inputs.ensures)
     c.measured.ensures.count)
-    (sym (length-map commands (plain_command {h = g.row.H}))
-    ∙ ap length c.commands-count.ensures) in
+    (sym (length-map commands (plain_command {h = g.row.H})) ∙ ap length c.commands-count.ensures) in
     (λ s. sym e ∙ h.0 (cc), λ s. ap (λ x. Err x) (h.1 (e ∙ s)))

@@ -5,7 +5,8 @@ use Rattle.mc_run_text.proofs.run.run_circuit_text.Goals as goal
 
 pub returns-in-Ok-print_table-clause-text : goal.returns-in-Ok-print_table-clause-text
 returns-in-Ok-print_table-clause-text g c =
-    c.in-Ok-print_table.ensures ∙ circuit_same g.row.H c.args.circuit.now c.in-Ok.table c.in-Ok.ensures.table
+    c.in-Ok-print_table.ensures
+    ∙ circuit_same g.row.H c.args.circuit.now c.in-Ok.table c.in-Ok.ensures.table
 
 pub returns-clause-limit : goal.returns-clause-limit
 returns-clause-limit g c = λ which found.
