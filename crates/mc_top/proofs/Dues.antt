@@ -1,7 +1,8 @@
 -- What is due for bytes within the limit.
-use Rattle.std.proofs.Common.{◌≡◌, ◌⊎◌, ℕ, ◌+◌, ◌<◌, ◌≤◌, List, length, length-map, map, Bool, true, false, nat_lt, Option, Some, None, Result, Ok, Err, IfOk, IfErr, refl, sym, subst, ap, inl, inr, ◌∙◌, arith}
+use Rattle.std.proofs.Common.{◌≡◌, ◌⊎◌, ℕ, ◌+◌, ◌<◌, ◌≤◌, List, length, map, Bool, true, false, nat_lt, Option, Some, None, Result, Ok, Err, IfOk, IfErr, refl, sym, subst, ap, inl, inr, ◌∙◌, arith}
 use Rattle.std.specs.Prelude.{IfSome}
 use Rattle.std.specs.Prelude.{nat_eq}
+use Rattle.std.proofs.lemmas.List.{length-map}
 use Rattle.std.proofs.lemmas.Bool.{eq-eqb}
 use Rattle.std.proofs.lemmas.Bool.Decides.{nat_tests}
 use Rattle.mc_top.specs.Tasks.{Asked}
@@ -107,5 +108,5 @@ pub branch_due : (place : Place) (digits : List ℕ) (p : Pattern) (change : Opt
     ≡ due_unless (run_limit (branch_limit p)) (answer (branch_run 4 p (map is_one digits)))
 branch_due place digits p change long =
     let same : nat_eq (length (map is_one digits)) (measured_count p) ≡ true =
-    eq-eqb (length (map is_one digits)) (measured_count p) (length-map is_one digits ∙ long) in
+    eq-eqb (length (map is_one digits)) (measured_count p) (length-map digits is_one ∙ long) in
     rw same refl

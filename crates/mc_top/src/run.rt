@@ -93,11 +93,7 @@ fn answer_outcomes(
     answer_values(alloc, source, outcomes.as_slice())
 }
 
-fn answer_values(
-    alloc: Global,
-    source: &Pattern<4>,
-    outcomes: &[bool],
-) -> Result<Vec<u8>, TextEnd>
+fn answer_values(alloc: Global, source: &Pattern<4>, outcomes: &[bool]) -> Result<Vec<u8>, TextEnd>
     requires { length outcomes.now ≡ measured_count source.now }
     ensures { Gives result
         (due_unless (run_limit (branch_limit source.now)) (answer (branch_run 4 source.now outcomes.now))) }

@@ -1,4 +1,5 @@
 use super::*;
+use itoa::Buffer;
 use mc_io::{HonestSink, HonestSource, MemSink, MemSource};
 use std::alloc::Global;
 use std::process::Abort;
@@ -164,6 +165,52 @@ fn prints_documents(rt: HostRuntime) -> Result<(), Fail> {
     answers(&rt, rt.alloc(), "print", rows.as_slice())
 }
 
+const ONE_GATE_BRANCHES: &str =
+    "branches 1\nbranch 0 phase 0\namp 0 0 1 0 0 0 / 2\namp 1 0 1 0 0 0 / 2\namp 0 1 0 1 0 0 / 2\namp 1 1 0 -1 0 0 / 2\nbranch 1 phase 0\namp 0 0 1 0 0 0 / 2\namp 1 0 1 0 0 0 / 2\namp 0 1 0 1 0 0 / 2\namp 1 1 0 -1 0 0 / 2\nalike yes\nend\n";
+
+const UNLIKE: &str = "pattern 1\nin a\nn b\ne a b\nm a 7\nout b\nend\n";
+
+const UNLIKE_BRANCHES: &str =
+    "branches 1\nbranch 0 phase 0\namp 0 0 1 0 0 0 / 2\namp 1 0 1 0 0 0 / 2\namp 0 1 0 1 0 0 / 2\namp 1 1 0 -1 0 0 / 2\nbranch 1 phase none\namp 0 0 1 0 0 0 / 2\namp 1 0 1 0 0 0 / 2\namp 0 1 0 -1 0 0 / 2\namp 1 1 0 1 0 0 / 2\nalike no\nend\n";
+
+const ONE_GATE_TABLE: &str =
+    "table 1\namp 0 0 1 0 0 0 / 1\namp 1 0 1 0 0 0 / 1\namp 0 1 0 1 0 0 / 1\namp 1 1 0 -1 0 0 / 1\nend\n";
+
+const ONE_GATE_BRANCH: &str =
+    "table 1\nbranch 1\namp 0 0 1 0 0 0 / 2\namp 1 0 1 0 0 0 / 2\namp 0 1 0 1 0 0 / 2\namp 1 1 0 -1 0 0 / 2\nend\n";
+
+#[test]
+fn runs_documents(rt: HostRuntime) -> Result<(), Fail> {
+    let alloc = rt.alloc();
+    let rows = [
+        (ONE_GATE_PATTERN, ONE_GATE_BRANCHES),
+        (UNLIKE, UNLIKE_BRANCHES),
+        (ONE_GATE, ONE_GATE_TABLE),
+    ];
+    answers(&rt, alloc, "run", rows.as_slice())?;
+    answers(
+        &rt,
+        alloc,
+        "run 1",
+        [(ONE_GATE_PATTERN, ONE_GATE_BRANCH)].as_slice(),
+    )?;
+    let differs = Status::Refused {
+        code: 25,
+        line: 1,
+        column: 1,
+    };
+    let note = "mcalc: refused 25 at 1:1\n";
+    check(
+        &rt,
+        alloc,
+        "run 11",
+        ONE_GATE_PATTERN.as_bytes(),
+        (differs, "", note),
+    )?;
+    let usage = (Status::Usage, "", "mcalc: usage\n");
+    check(&rt, alloc, "run 2", ONE_GATE_PATTERN.as_bytes(), usage)
+}
+
 /// Prints each text, and compares the code, the line and the column of its refusal.
 fn refusals(
     rt: &impl Abort,
@@ -214,13 +261,12 @@ fn refuses_patterns(rt: HostRuntime) -> Result<(), Fail> {
 }
 
 /// A circuit of so many inputs and no gates, whose text is canonical.
-fn wires(alloc: Global, count: u16) -> Result<Vec<u8>, Fail> {
+fn wires(alloc: Global, count: u64) -> Result<Vec<u8>, Fail> {
     let mut names = Vec::new(alloc);
     for number in 0..count {
+        let mut digits = Buffer::new();
         names.extend_from_slice(b" w")?;
-        for digit in [number / 100, number / 10 % 10, number % 10] {
-            names.push(b'0' + digit as u8)?;
-        }
+        names.extend_from_slice(digits.format(number).as_bytes())?;
     }
     let mut text = Vec::from_slice(alloc, b"circuit 1\nin")?;
     text.extend_from_slice(names.as_slice())?;
