@@ -5,6 +5,8 @@ mod document;
 mod note;
 mod passes;
 mod run;
+#[cfg(test)]
+mod run_tests;
 mod status;
 mod takes;
 mod task;

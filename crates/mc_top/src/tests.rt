@@ -9,7 +9,7 @@ const ONE_GATE: &str = "circuit 1\nin a\nj a 1\nout a\nend\n";
 
 const ONE_GATE_PATTERN: &str = "pattern 1\nin a\nn q1\ne a q1\nm a 7\nx q1 a\nout q1\nend\n";
 
-fn listed(alloc: Global, line: &str) -> Result<Vec<String>, Fail> {
+pub(crate) fn listed(alloc: Global, line: &str) -> Result<Vec<String>, Fail> {
     let mut words = Vec::new(alloc);
     for word in line.split(' ') {
         words.push(String::from_str(alloc, word)?)?;
@@ -18,7 +18,7 @@ fn listed(alloc: Global, line: &str) -> Result<Vec<String>, Fail> {
 }
 
 /// Serves words on a text, and compares the status, the answer and the note.
-fn check(
+pub(crate) fn check(
     rt: &impl Abort,
     alloc: Global,
     words: &str,
@@ -106,9 +106,9 @@ const TWO_GATES: &str = "circuit 1\nin a\nj a 1\nj a 2\nout a\nend\n";
 const TWO_GATES_STANDARD: &str =
     "pattern 1\nin a\nn q1\nn q2\ne a q1\ne q1 q2\nm a 7\nm q1 6 s: a\nx q2 q1\nz q2 a\nout q2\nend\n";
 
-const WILD: &str = "pattern 1\nin a b\nm a 0\nz b a\nx b a\nout b\nend\n";
+pub(crate) const WILD: &str = "pattern 1\nin a b\nm a 0\nz b a\nx b a\nout b\nend\n";
 
-const WILD_STANDARD: &str = "pattern 1\nin a b\nm a 0\nx b a\nz b a\nout b\nend\n";
+pub(crate) const WILD_STANDARD: &str = "pattern 1\nin a b\nm a 0\nx b a\nz b a\nout b\nend\n";
 
 const THREE_GATES: &str = "circuit 1\nin a\nj a 1\nj a 2\nj a 3\nout a\nend\n";
 
@@ -252,12 +252,29 @@ fn refuses_patterns(rt: HostRuntime) -> Result<(), Fail> {
             "mcalc: refused 21 at 5:1\n",
         ),
         (
+            "pattern 1\nin a\nn q1\nn q2\nn q3\ne a q1\ne q1 q2\ne q2 q3\nm a 7\nm q1 6 s: a\nm q2 5 s: q1\nx q3 a q2\nz q3 q1\nout q3\nend\nchange 1\no a\no q1\nend\n",
+            (22, 19, 1),
+            "mcalc: refused 22 at 19:1\n",
+        ),
+        (
             "pattern 1\nin a\nm a 0\nout\nend\nchange 1\nend\n",
             (22, 7, 1),
             "mcalc: refused 22 at 7:1\n",
         ),
     ];
     refusals(&rt, rt.alloc(), rows.as_slice())
+}
+
+/// Prints a canonical text, and compares the answer with the text itself.
+fn check_print(rt: &impl Abort, alloc: Global, text: &[u8]) -> Result<(), Fail> {
+    let words = listed(alloc, "print")?;
+    let mut source = HonestSource::new(Vec::from_slice(alloc, text)?);
+    let mut out = HonestSink::new(alloc, 4096)?;
+    let mut note = HonestSink::new(alloc, 96)?;
+    let status = serve(alloc, words.as_slice(), &mut source, &mut out, &mut note);
+    assert_eq!(rt; status, Status::Done);
+    assert_eq!(rt; out.bytes(), text);
+    Ok(())
 }
 
 /// A circuit of so many inputs and no gates, whose text is canonical.
@@ -279,14 +296,7 @@ fn wires(alloc: Global, count: u64) -> Result<Vec<u8>, Fail> {
 #[test]
 fn counts_names(rt: HostRuntime) -> Result<(), Fail> {
     let alloc = rt.alloc();
-    let most = wires(alloc, 256)?;
-    let words = listed(alloc, "print")?;
-    let mut source = HonestSource::new(Vec::from_slice(alloc, most.as_slice())?);
-    let mut out = HonestSink::new(alloc, 4096)?;
-    let mut note = HonestSink::new(alloc, 96)?;
-    let status = serve(alloc, words.as_slice(), &mut source, &mut out, &mut note);
-    assert_eq!(&rt; status, Status::Done);
-    assert_eq!(&rt; out.bytes(), most.as_slice());
+    check_print(&rt, alloc, wires(alloc, 256)?.as_slice())?;
     let more = wires(alloc, 257)?;
     let passed = Status::Limit {
         which: 2,
@@ -330,6 +340,21 @@ fn refuses_texts(rt: HostRuntime) -> Result<(), Fail> {
     )
 }
 
+/// The circuit of one gate with a comment, so long that the text is as long as may be, and then one byte longer.
+fn fills_the_text(rt: &impl Abort, alloc: Global, word: &str, answer: &str) -> Result<(), Fail> {
+    let mut text = Vec::from_slice(alloc, ONE_GATE.as_bytes())?;
+    text.push(b'#')?;
+    text.resize(8_388_608, b'x')?;
+    check(rt, alloc, word, text.as_slice(), (Status::Done, answer, ""))?;
+    text.push(b'x')?;
+    let passed = Status::Limit {
+        which: 1,
+        found: 8_388_609,
+    };
+    let note = "mcalc: limit 1 found 8388609\n";
+    check(rt, alloc, word, text.as_slice(), (passed, "", note))
+}
+
 #[test]
 fn keeps_to_limits(rt: HostRuntime) -> Result<(), Fail> {
     let alloc = rt.alloc();
@@ -340,23 +365,9 @@ fn keeps_to_limits(rt: HostRuntime) -> Result<(), Fail> {
     };
     let note = "mcalc: limit 2 found 257\n";
     check(&rt, alloc, "translate", long.as_slice(), (passed, "", note))?;
-    let mut text = Vec::from_slice(alloc, ONE_GATE.as_bytes())?;
-    text.push(b'#')?;
-    text.resize(8_388_608, b'x')?;
-    check(
-        &rt,
-        alloc,
-        "translate",
-        text.as_slice(),
-        (Status::Done, ONE_GATE_PATTERN, ""),
-    )?;
-    text.push(b'x')?;
-    let passed = Status::Limit {
-        which: 1,
-        found: 8_388_609,
-    };
-    let note = "mcalc: limit 1 found 8388609\n";
-    check(&rt, alloc, "translate", text.as_slice(), (passed, "", note))
+    check_print(&rt, alloc, long.as_slice())?;
+    fills_the_text(&rt, alloc, "translate", ONE_GATE_PATTERN)?;
+    fills_the_text(&rt, alloc, "print", ONE_GATE)
 }
 
 /// Serves the circuit of one gate into a sink of some room, in pieces of ten bytes, and gives how it ended.
