@@ -1,5 +1,5 @@
 -- What is due for bytes within the limit.
-use Rattle.std.proofs.Common.{◌≡◌, ◌⊎◌, ℕ, ◌+◌, ◌<◌, ◌≤◌, List, length, map, Bool, true, false, nat_lt, Option, Some, None, Result, Ok, Err, IfOk, IfErr, refl, sym, subst, ap, inl, inr, ◌∙◌, arith}
+use Rattle.std.proofs.Common.{◌≡◌, ◌⊎◌, ℕ, ◌+◌, ◌<◌, ◌≤◌, List, length, map, true, false, nat_lt, Option, Some, None, Result, Ok, Err, IfOk, IfErr, refl, sym, subst, ap, inl, inr, ◌∙◌, arith}
 use Rattle.std.specs.Prelude.{IfSome}
 use Rattle.std.specs.Prelude.{nat_eq}
 use Rattle.std.proofs.lemmas.List.{length-map}
@@ -25,7 +25,7 @@ use Rattle.mc_top.specs.Ends.{status_by_end, end_of_run}
 use Rattle.mc_model.specs.declared.memory.Memory.{Memory}
 use Rattle.std.specs.declared.vec.Vec.{Vec}
 use Rattle.std.specs.declared.alloc.Global.{Global}
-use Rattle.mc_top.specs.Serve.{Due, answer, due_branch, due_unless, run_limit, source_of, due_from, Gives, IsStatus, status_of, due_of, due_for, source_limit, most_bytes}
+use Rattle.mc_top.specs.Serve.{Due, answer, due_branch, due_unless, run_limit, source_of, due_from, Gives, IsStatus, status_of, due_of, due_for, source_limit}
 use Rattle.mc_top.specs.Documents.{Spelled, circuit, pattern}
 
 pub due_within : (task : Asked) (input : List ℕ) → length input ≤ 8388608 →

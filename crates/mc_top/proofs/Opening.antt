@@ -1,5 +1,5 @@
 -- A document behind its header, and a change behind its own.
-use Rattle.std.proofs.Common.{◌≡◌, ℕ, zero, suc, List, [], ◌∷◌, Bool, true, Option, Some, None, refl, sym, ◌∙◌, ap, subst}
+use Rattle.std.proofs.Common.{◌≡◌, ℕ, zero, suc, List, [], ◌∷◌, true, Option, Some, None, refl, ◌∙◌, ap, subst}
 use Rattle.std.specs.Option.{option_map}
 use Rattle.mc_lex.specs.declared.kind.Kind.{Kind}
 use Rattle.mc_lex.specs.declared.kind.Kind.TheVariants.{Circuit, Pattern, Graph, Change, Flow, NoFlow, NoCausal, Trace, Least, Gates}

@@ -1,5 +1,5 @@
 -- What the shifted form of a standard form is for the pattern that it is the standard form of.
-use Rattle.std.proofs.Common.{◌≡◌, ◌∙◌, ℕ, Bool, List, Result, Ok, Err, OnOk, sym, ap, subst}
+use Rattle.std.proofs.Common.{◌≡◌, ◌∙◌, Bool, List, Result, Ok, Err, OnOk, sym, ap, subst}
 use Rattle.mc_model.specs.Phase.{PhaseOps, turn}
 use Rattle.mc_model.specs.Bits.{Bits}
 use Rattle.mc_model.specs.Ring.{ring}

@@ -1,9 +1,9 @@
 -- What the bytes that come in call for.
-use Rattle.std.specs.Prelude.{◌≡◌, ◌≢◌, ◌⊎◌, ℕ, ◌+◌, true, false, List, [], ◌∷◌, ◌++◌, length, nat_eq, nat_lt, Bool, if◌then◌else◌, Option, None, Some, Result, Ok, Err}
+use Rattle.std.specs.Prelude.{◌≡◌, ◌≢◌, ◌⊎◌, ℕ, ◌+◌, true, false, List, [], ◌++◌, length, nat_eq, nat_lt, Bool, if◌then◌else◌, Option, None, Some, Result, Ok, Err}
 use Rattle.std.specs.Option.{option_map}
 use Rattle.std.specs.declared.vec.Vec.{Vec}
 use Rattle.std.specs.declared.alloc.Global.{Global}
-use Rattle.mc_model.specs.Pattern.{Circuit, Pattern, wires}
+use Rattle.mc_model.specs.Pattern.{Pattern, wires}
 use Rattle.mc_model.specs.Shift.{ChangeRow, change_of}
 use Rattle.mc_model.specs.Amplitude.{j_count}
 use Rattle.mc_model.specs.Translation.{translation}

@@ -1,8 +1,4 @@
-use Rattle.std.proofs.Common.{◌≡◌, ◌∙◌, None, Some, sym, ap, subst}
-use Rattle.mc_text.specs.Judged.{first_in_section, or_later}
-use Rattle.mc_text.specs.Stops.{IsEnd}
-use Rattle.mc_pattern_text.specs.ChangeJudge.{change_rules}
-use Rattle.mc_top.specs.Documents.{first_behind, first_behind_pattern}
+use Rattle.std.proofs.Common.{◌∙◌, Some, sym, ap}
 use Rattle.mc_top.proofs.Opening.{IsBehind, behind_first, behind_spelled, end_first}
 use Rattle.mc_top.proofs.document.read_behind_pattern.Goals as goal
 

@@ -1,5 +1,4 @@
-use Rattle.std.proofs.Common.{◌≡◌, ◌∙◌, sym}
-use Rattle.mc_text.specs.Stops.{IsEnd}
+use Rattle.std.proofs.Common.{◌∙◌, sym}
 use Rattle.mc_top.proofs.Opening.{IsOpened, opened_first, opened_spelled}
 use Rattle.mc_top.proofs.document.read_document.Goals as goal
 

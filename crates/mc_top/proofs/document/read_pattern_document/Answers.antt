@@ -1,4 +1,3 @@
-use Rattle.std.proofs.Common.{◌≡◌, ◌∙◌, None, sym, ap}
 use Rattle.mc_top.proofs.Opening.{further_last}
 use Rattle.mc_top.proofs.document.read_pattern_document.Goals as goal
 

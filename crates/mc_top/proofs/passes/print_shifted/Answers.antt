@@ -1,7 +1,7 @@
 use Rattle.std.proofs.Common.{◌≡◌, ◌∙◌, ◌++◌, List, IfOk, sym, subst, arith}
 use Rattle.mc_model.specs.Pattern.{Pattern}
 use Rattle.mc_model.specs.Valid.{IsValidPattern}
-use Rattle.mc_model.specs.Shift.{ChangeRow, change_of}
+use Rattle.mc_model.specs.Shift.{ChangeRow}
 use Rattle.mc_pattern_text.specs.Canonical.{pattern_text}
 use Rattle.mc_pattern_text.specs.ChangeCanonical.{change_text}
 use Rattle.mc_shift.specs.Shifted.{shifted_form}

@@ -1,4 +1,4 @@
-use Rattle.std.proofs.Common.{◌≡◌, ◌∙◌, ap, Err}
+use Rattle.std.proofs.Common.{◌∙◌, ap, Err}
 use Rattle.mc_top.proofs.Dues.{limit_past}
 use Rattle.mc_top.proofs.passes.source.Goals as goal
 

@@ -1,4 +1,4 @@
-use Rattle.std.proofs.Common.{◌≡◌, Err, ap}
+use Rattle.std.proofs.Common.{Err, ap}
 use Rattle.mc_top.proofs.Dues.{run_err}
 use Rattle.mc_top.proofs.run.answer_values.Goals as goal
 

@@ -1,7 +1,7 @@
-use Rattle.std.proofs.Common.{◌≡◌, ◌∙◌, sym, ap, inl, inr, refl, arith, Err}
+use Rattle.std.proofs.Common.{◌≡◌, ◌∙◌, inl, inr, refl, arith, Err}
 use Rattle.mc_top.specs.declared.status.Status.TheVariants as status
 use Rattle.mc_top.specs.Meaning.{Means}
-use Rattle.mc_top.specs.Serve.{Gives, IsStatus, Writes, status_of, due_of, due_for, answer}
+use Rattle.mc_top.specs.Serve.{Gives, IsStatus, Writes, due_of, due_for, answer}
 use Rattle.mc_top.specs.Tasks.{plain_task}
 use Rattle.mc_top.proofs.Dues.{due_within, of_told, gives_status}
 use Rattle.mc_top.proofs.top.run.Goals as goal

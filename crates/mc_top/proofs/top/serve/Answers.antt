@@ -1,4 +1,4 @@
-use Rattle.std.proofs.Common.{◌≡◌, [], arith}
+use Rattle.std.proofs.Common.{[], arith}
 use Rattle.mc_io.proofs.Told.{Consumes-nil}
 use Rattle.mc_top.proofs.top.serve.Goals as goal
 use Rattle.mc_top.proofs.top.serve.Goals.{in-Some, in-None}
