@@ -6,7 +6,7 @@ use mathlib.Core.Path.{subst, fun_ext}
 use mathlib.Core.Logic.{inl, inr}
 use Rattle.mc_model.specs.Names.{Name}
 use Rattle.mc_model.specs.Bits.{◌⊻◌, Bits, all_zero, replaced, parity}
-use Rattle.mc_model.specs.Signals.{Signal, Signals, value, no_signal, signal_of, signal_sum, IsRising}
+use Rattle.mc_model.specs.Signals.{Signal, Signals, value, signal_of, signal_sum, IsRising}
 use Rattle.mc_model.specs.Pattern.{Command, Prep, Ent, Meas, FixX, FixZ, Pattern}
 use Rattle.mc_model.specs.Valid.{measured, AllDone, IsValid, IsValidPattern}
 use Rattle.mc_model.specs.Shift.{ChangeRow, new_outcomes, change_of, IsShiftedSignal, IsShifted, IsShiftedForm}
