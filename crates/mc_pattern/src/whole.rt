@@ -10,12 +10,7 @@ use mc_names::Names;
 
 impl<const H: usize> Pattern<H> {
     /// The pattern of parts that are those of a valid one. It takes no memory.
-    pub fn of(
-        names: Names,
-        inputs: u16,
-        commands: Vec<Command<H>>,
-        outputs: Vec<u16>,
-    ) -> Pattern<H>
+    pub fn of(names: Names, inputs: u16, commands: Vec<Command<H>>, outputs: Vec<u16>) -> Pattern<H>
         requires { IsPattern H
             (with_outputs (begun names inputs (map plain_command commands.items)) outputs.items) }
         ensures { result ≡

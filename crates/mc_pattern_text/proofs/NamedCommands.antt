@@ -49,7 +49,7 @@ measured_at (Meas r a s t ∷ cs) q m = elim (cases_Bool (nat_eq q r)) [
 ]
 
 -- a measured qubit is one of those that are there
-measured_there : (inputs : ℕ) (before behind : List Command) (q : ℕ) →
+pub measured_there : (inputs : ℕ) (before behind : List Command) (q : ℕ) →
     IsValid inputs (before ++ behind) → measured before q ≡ true → q < inputs + prepared before
 measured_there inputs before behind q v m =
     let at = measured_at before q m in

@@ -7,6 +7,7 @@ use Rattle.mc_write.specs.Named.{name_at}
 use Rattle.mc_model.specs.Pattern.{Command, Pattern}
 use Rattle.mc_pattern_text.specs.Canonical.{command_line, pattern_text}
 use Rattle.mc_pattern_text.specs.Written.{IsNamed, AreNamed}
+use Rattle.mc_pattern_text.proofs.Parts.{taken_more}
 
 -- one of a list of commands
 pub AreNamed-at : {A : Type 0} (f : A → Command) (n : ℕ) (xs : List A) (i : ℕ) (x : A) →
@@ -47,12 +48,6 @@ pub printed : (p : Pattern) (headed with_inputs with_commands with_outputs whole
     IsPrinted p headed with_inputs with_commands with_outputs whole → whole ≡ pattern_text p
 printed p headed with_inputs with_commands with_outputs whole h =
     rw (h.end, h.outputs, h.commands, h.inputs, h.header) (parts p)
-
--- one member more
-taken_more : (xs : List ℕ) (i x : ℕ) → slice_get xs i ≡ Some x → take (suc i) xs ≡ take i xs ++ x ∷ []
-taken_more [] i x e = absurd (cc)
-taken_more (y ∷ ys) zero x e = let same : y ≡ x = cc in ap (λ (z : ℕ). z ∷ []) same
-taken_more (y ∷ ys) (suc i) x e = ap (λ (zs : List ℕ). y ∷ zs) (taken_more ys i x e)
 
 pub members_more : (start : List ℕ) (f : ℕ → List ℕ) (xs : List ℕ) (i x : ℕ) →
     slice_get xs i ≡ Some x →

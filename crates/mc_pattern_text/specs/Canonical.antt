@@ -1,6 +1,7 @@
 -- The canonical text of a pattern.
-use Rattle.std.specs.Prelude.{ℕ, List, [], ◌∷◌, ◌++◌, map, codes, take}
+use Rattle.std.specs.Prelude.{ℕ, List, [], ◌∷◌, ◌++◌, map, codes, take, drop}
 use Rattle.std.specs.Fmt.{decimal}
+use Rattle.mc_lex.specs.Lines as lex
 use Rattle.mc_write.specs.Text.{Line, text_of}
 use Rattle.mc_write.specs.Named.{name_at}
 use Rattle.mc_model.specs.Names.{Name}
@@ -30,3 +31,7 @@ pattern_lines p =
 
 abbrev pub pattern_text : Pattern → List ℕ
 pattern_text p = text_of ((codes "pattern" ∷ codes "1" ∷ []) ∷ pattern_lines p)
+
+-- the lines of a text behind its header
+abbrev pub behind_header : List ℕ → List lex.Line
+behind_header text = drop 1 (lex.lines_of text)

@@ -29,9 +29,9 @@ second_signal here = words_under is_second None (names_in is_measuring here)
 abbrev pub is_in_second : Point → Bool
 is_in_second p = is_measuring p.head && is_second p.mark
 
--- what a word is judged by: the names that are defined, that were measured in earlier lines and that
--- are listed as outputs, the first operand of its line, the members before it in its signal, and the
--- number of commands in the lines before
+-- what a word is judged by: the names that are defined, that were measured in earlier lines and
+-- that are listed as outputs, the first operand of its line, the members before it in its signal,
+-- and the number of commands in the lines before
 pub record Known : Type 0 where
   pub names : List (List ℕ)
   pub measured : List (List ℕ)

@@ -10,6 +10,7 @@ use Rattle.mc_model.specs.Pattern as plain
 use Rattle.mc_signal.specs.Outcomes.{bits_of}
 use Rattle.mc_text.specs.declared.head.Head.{Head}
 use Rattle.mc_text.specs.declared.head.Head.TheVariants.{N, E, M, X, Z, Out, End}
+use Rattle.mc_text.specs.declared.point.Mark.{Mark}
 use Rattle.mc_text.specs.declared.point.Point.{Point}
 use Rattle.mc_text.specs.Heads.{head_of, head_in}
 use Rattle.mc_text.specs.Points.{mark_of, last_head}
@@ -20,7 +21,7 @@ use Rattle.mc_pattern.specs.Commands.{plain_command}
 use Rattle.mc_pattern.specs.Patterns.{IsBuilt, begun}
 use Rattle.mc_pattern_text.specs.declared.reader.Reader.{Reader}
 use Rattle.mc_pattern_text.specs.declared.reader.Operands.{Operands}
-use Rattle.mc_pattern_text.specs.Roles.{may_follow, role_of, is_defining, is_input, is_preparing, is_entangling, is_measuring, is_correcting, is_command, has_operand, is_output}
+use Rattle.mc_pattern_text.specs.Roles.{may_follow, role_of, role_behind, is_defining, is_input, is_preparing, is_entangling, is_measuring, is_correcting, is_command, has_operand, is_output}
 use Rattle.mc_pattern_text.specs.Value.{is_first, is_second, word_under, spelled_commands, command_by}
 use Rattle.mc_pattern_text.specs.Judge.{Known, measured_in, first_signal, second_signal, is_in_second, is_settled, judge_by, lacks_by}
 
@@ -158,6 +159,24 @@ pub record Fills {half : ℕ} (names : List (List ℕ)) (marks : Bits) (o o' : O
   pub s : Joins names marks o.s o'.s (added_first p word)
   pub t : Joins names marks o.t o'.t (added_second p word)
 
+-- the members of the signal that the last mark begins
+abbrev pub set_behind : {half : ℕ} → Operands half → Option Mark → List ℕ
+set_behind o mark = if is_second mark then o.t else o.s
+
+-- what a word behind the angle of a measurement with nothing against it does
+pub record TakesBehind {half : ℕ} (names : List (List ℕ)) (marks : Bits) (o o' : Operands half)
+    (mark : Option Mark) (word : List ℕ) : Type 0 where
+  pub clean : (measured listed members : List (List ℕ)) (first : Option (List ℕ)) (commands : ℕ)
+      (last : Option Head) → AreMarked names measured marks
+      → AreMarked names members (is_member (set_behind o mark))
+      → judge_by (known_by names measured listed members first commands) last (role_behind mark)
+      word ≡ None
+  pub first : o'.first ≡ o.first
+  pub second : o'.second ≡ o.second
+  pub angle : o'.angle ≡ o.angle
+  pub s : Joins names marks o.s o'.s (word_under is_first mark word)
+  pub t : Joins names marks o.t o'.t (word_under is_second mark word)
+
 -- what a word of a command with nothing against it does to the operands
 pub record Takes {half : ℕ} (names : List (List ℕ)) (marks : Bits) (o o' : Operands half)
     (p : Point) (word : List ℕ) : Type 0 where
@@ -226,6 +245,7 @@ pub record Ends {half : ℕ} (k k' : Reader half) (p : Point) : Type 0 where
       ++ option_to_list (command_with p.head k.operands)
   pub marks : k.operands.first < 256
       → bits_of k'.marks ≡ marks_with p.head k.operands.first (bits_of k.marks)
+  pub same_marks : is_measuring p.head ≡ false → k'.marks ≡ k.marks
   pub long : length k'.marks ≡ 256
   pub s : k'.operands.s ≡ []
   pub t : k'.operands.t ≡ []

@@ -9,8 +9,9 @@ use Rattle.mc_text.specs.declared.point.Point.{Point}
 
 -- a record word; a name that is defined as an input, or as a qubit that is prepared; the first
 -- operand of a command, the second of `e`, the angle of a measurement; behind the angle the word
--- that begins a signal; behind `s:` a member of the first signal, or the word that begins the second
--- one; another member of a signal; a name that is listed as an output; a word behind a whole line
+-- that begins a signal; behind `s:` a member of the first signal, or the word that begins the
+-- second one; another member of a signal; a name that is listed as an output; a word behind a
+-- whole line
 pub data Role : Type 0 where
   record_word : Role
   input : Role

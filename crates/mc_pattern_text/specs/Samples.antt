@@ -26,13 +26,18 @@ set_of qs = record { members = qs; constant = false }
 pub without_qubits : first (codes "in\nout\nend") ≡ None
 without_qubits = refl
 
-pub whole : first (codes "in a b\nn q\ne a q\nm a 0\nm b 1 s: a t: a\nx q a b\nz q\nout q\nend\nmore") ≡ None
+pub whole :
+    first (codes "in a b\nn q\ne a q\nm a 0\nm b 1 s: a t: a\nx q a b\nz q\nout q\nend\n") ≡ None
 whole = refl
 
 pub empty_signals : first (codes "in a\nm a 0 s: t:\nout\nend") ≡ None
 empty_signals = refl
 
-pub spells : Spells (codes "in a b\nn q\ne a q # c\nm b -1\n\nm\ta 09 s: b t: b\nx q b a\nz q\nout q\nend\n") (record {
+abbrev pub each_command : List ℕ
+each_command =
+    codes "in a b\nn q\ne a q # c\nm b -1\n\nm\ta 09 s: b t: b\nx q b a\nz q\nout q\nend\n"
+
+pub spells : Spells each_command (record {
   names = codes "a" ∷ codes "b" ∷ codes "q" ∷ [];
   inputs = 2;
   outputs = 2 ∷ [];
@@ -154,7 +159,8 @@ corrected_by_itself = refl
 pub member_twice : Breaks (codes "in a b\nm a 0\nm b 0 s: a a\nout\nend\n") ListedTwice 3 12
 member_twice = refl
 
-pub second_member_twice : Breaks (codes "in a b\nm a 0\nm b 0 s: a t: a a\nout\nend\n") ListedTwice 3 17
+pub second_member_twice :
+    Breaks (codes "in a b\nm a 0\nm b 0 s: a t: a a\nout\nend\n") ListedTwice 3 17
 second_member_twice = refl
 
 pub listed_twice : Breaks (codes "in a b\nout a b a\nend\n") ListedTwice 2 9

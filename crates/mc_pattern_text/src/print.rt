@@ -36,7 +36,7 @@ fn print_inputs(text: &mut Vec<u8>, names: &Names, inputs: u16) -> Result<(), Me
 }
 
 /// Writes the members of a signal as further words of a line.
-fn add_members(text: &mut Vec<u8>, names: &Names, signal: &Signal) -> Result<(), Memory>
+pub(crate) fn add_members(text: &mut Vec<u8>, names: &Names, signal: &Signal) -> Result<(), Memory>
     requires { All (λ k. k < length names.now) signal.now.members }
     ensures { OnOk result (text.new.items ≡ text.old.items ++ words_behind (map (name_at names.now) signal.now.members)) }
 {
@@ -162,7 +162,7 @@ fn print_outputs(text: &mut Vec<u8>, names: &Names, outputs: &[u16]) -> Result<(
     end_line(text)
 }
 
-fn print_end(text: &mut Vec<u8>) -> Result<(), Memory>
+pub(crate) fn print_end(text: &mut Vec<u8>) -> Result<(), Memory>
     ensures { OnOk result (text.new.items ≡ text.old.items ++ line_text (codes "end" ∷ [])) }
 {
     start_line(text, b"end")?;

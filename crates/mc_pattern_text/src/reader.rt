@@ -19,8 +19,8 @@ pub(crate) struct Operands<const H: usize> {
     pub(crate) t: QSet,
 }
 
-/// What is kept of the lines of a pattern: with a mark for each qubit that was measured, and of the current line the operands
-/// of its command.
+/// What is kept of the lines of a pattern: a mark for each qubit that was measured, and of the current line the
+/// operands of its command.
 #[derive(Drop)]
 pub(crate) struct Reader<const H: usize> {
     pub(crate) alloc: Global,

@@ -3,3 +3,7 @@ pub mod Shifting
 pub mod NewOutcomes
 pub mod ShiftedForm
 pub mod ShiftedValid
+pub mod Halfway
+pub mod Places
+pub mod PutIn
+pub mod ShiftedStandard

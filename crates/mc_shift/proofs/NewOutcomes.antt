@@ -21,7 +21,7 @@ RowsFit done (row ∷ rows) =
     × AllDone done row.signal.members
     × RowsFit (replaced done row.qubit true) rows
 
-rows_fit : (inputs : ℕ) (before cs : List Command) → IsValid inputs (before ++ cs) →
+pub rows_fit : (inputs : ℕ) (before cs : List Command) → IsValid inputs (before ++ cs) →
     RowsFit (measured before) (change_of cs)
 unfolding measured change_of
 rows_fit inputs before [] v = tt
@@ -57,7 +57,7 @@ parity-agree done [] o o' same all = refl
 parity-agree done (q ∷ qs) o o' same all =
     ap₂ (λ (a b : Bool). a ⊻ b) (same q all.0) (parity-agree done qs o o' same all.1)
 
-value-agree : (done : Bits) (s : Signal) (o o' : Bits) → Agree done o o' →
+pub value-agree : (done : Bits) (s : Signal) (o o' : Bits) → Agree done o o' →
     AllDone done s.members → value s o ≡ value s o'
 unfolding value
 value-agree done s o o' same all =

@@ -1,7 +1,8 @@
 -- Lists of commands made of four parts, one after the other.
 use Rattle.std.proofs.Common.{◌≡◌, ℕ, List, [], ◌∷◌, ◌++◌, map, refl, sym, ◌∙◌, ap, ap₂, append-nil, arith}
 use Rattle.std.specs.Prelude.{nat_eq, ⊤}
-use Rattle.std.proofs.lemmas.Bool.{eq-eqb, ne_eqb}
+use Rattle.std.proofs.lemmas.Bool.{eq-eqb, ne_eqb, cases_eq}
+use mathlib.Core.Logic.{inl, inr}
 use Rattle.std.proofs.lemmas.List.Elements.{filter-append}
 use Rattle.mc_model.specs.Signals.{Signal}
 use Rattle.mc_model.specs.Pattern.{Command, Prep, Ent, Meas, FixX, FixZ}
@@ -197,3 +198,11 @@ parts_with_z ps es ms fs cs q s h =
       measurements = part_stays 2 cs c refl ∙ h.measurements;
       corrections = part_grows 3 cs c refl ∙ behind (corrections_of cs) fs c h.corrections;
     }
+
+-- the commands that are taken for a part are of that part
+pub part_of_all : (k : ℕ) (cs : List Command) → AllOf k (part_of k cs)
+part_of_all k [] = tt
+part_of_all k (c ∷ cs) = elim (cases_eq (part c) k) [
+  | inl e ↦ rw (eq-eqb (part c) k e) (e, part_of_all k cs)
+  | inr ne ↦ rw (ne_eqb (part c) k ne) (part_of_all k cs)
+]

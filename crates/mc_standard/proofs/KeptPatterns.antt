@@ -180,9 +180,10 @@ standard_qubits_at inputs r =
     (λ r ih cs e v. elim (improves_or_settled inputs cs v) [
       | inl w ↦
           qubits_on cs w.next (standard_commands inputs cs)
-          (step_qubits inputs w.rule w.place cs w.next w.step)
-          (subst (SameQubits w.next) (sym w.same)
-          (ih (rank w.next) (subst (IsLower (rank w.next)) e w.lower) w.next refl w.step.to_valid))
+          (step_qubits inputs w.rule w.place cs w.next w.improved.step)
+          (subst (SameQubits w.next) (sym w.improved.same)
+          (ih (rank w.next) (subst (IsLower (rank w.next)) e w.improved.lower) w.next refl
+          w.improved.step.to_valid))
       | inr s ↦
           subst (SameQubits cs) (sym (settled_is_standard inputs cs v s)) (same_qubits cs)
     ]) r

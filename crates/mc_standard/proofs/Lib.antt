@@ -1,6 +1,8 @@
+pub mod Advance
 pub mod Carried
 pub mod Derives
 pub mod KeptPatterns
+pub mod Edits
 pub mod ExchangeLaws
 pub mod Frames
 pub mod InPlaceLemmas
@@ -9,9 +11,12 @@ pub mod LocalLaws
 pub mod Moves
 pub mod OnePass
 pub mod Orders
+pub mod Picks
+pub mod Placed
 pub mod PlaceSums
 pub mod RankFalls
 pub mod RuleSums
+pub mod RuleTypes
 pub mod RunningSums
 pub mod SameForm
 pub mod SettledEdges
@@ -19,6 +24,7 @@ pub mod SettledForm
 pub mod Settles
 pub mod StandardAlike
 pub mod UsesLeft
+pub mod Walks
 pub mod WrongPairs
 pub mod InParts
 pub mod CodeParts

@@ -1,10 +1,16 @@
 -- The standard form of a pattern of the code is one of the code.
-use Rattle.std.proofs.Common.{ℕ}
-use Rattle.mc_model.specs.Pattern.{Pattern}
-use Rattle.mc_model.specs.StandardForm.{standard_form}
+use Rattle.std.proofs.Common.{◌≡◌, ℕ, false, List, Some, None, refl, sym, ◌∙◌, ap}
+use Rattle.std.specs.Prelude.{Option, is_some}
+use Rattle.mc_model.specs.Pattern.{Command, Pattern}
+use Rattle.mc_model.specs.StandardForm.{standard_commands, standard_form}
+use Rattle.mc_model.specs.Ring.{ring}
+use Rattle.mc_model.proofs.RingLemmas.{ring_laws}
+use Rattle.mc_model.proofs.AlikeLemmas.{alike_branches}
 use Rattle.mc_pattern.specs.Patterns.{IsPattern}
+use Rattle.mc_standard.specs.Laws.{StandardIsAlike}
 use Rattle.mc_standard.specs.Parts.{IsStandardForm}
 use Rattle.mc_standard.proofs.KeptPatterns.{standardised}
+use Rattle.mc_standard.proofs.StandardAlike.{standard_alike}
 use Rattle.mc_standard.proofs.StandardSize.{few_standard}
 use Rattle.mc_standard.proofs.StandardTyped.{typed_standard}
 
@@ -20,3 +26,29 @@ standard_pattern half p h =
       };
       own = s.own;
     }
+
+-- a pattern that is its own standard form is that of each pattern with the same one
+pub reached : (p r : Pattern) → standard_form r ≡ standard_form p →
+    standard_commands r.inputs r.commands ≡ r.commands → r ≡ standard_form p
+unfolding standard_form
+reached p r same own =
+    sym (ap (λ (cs : List Command). record {
+      names = r.names;
+      inputs = r.inputs;
+      outputs = r.outputs;
+      commands = cs;
+    }) own)
+    ∙ same
+
+pub none_there : {A : Type 0} (o : Option A) → false ≡ is_some o → o ≡ None
+none_there None e = refl
+none_there (Some x) e = absurd (cc e)
+
+-- whatever the outcomes, the branch map of a pattern is that of its standard form up to one phase
+pub pattern_alike : StandardIsAlike
+unfolding standard_form
+pattern_alike half positive p v o =
+    let laws = ring_laws half positive in
+    alike_branches (ring half) laws p.names p.names p.inputs p.outputs o
+    p.commands (standard_commands p.inputs p.commands)
+    (standard_alike (ring half) laws o p.inputs p.commands v.commands)

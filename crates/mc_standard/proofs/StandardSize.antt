@@ -1,6 +1,6 @@
 -- The standard form of a pattern of at most 256 qubits has few commands.
-use Rattle.std.proofs.Common.{◌≡◌, ℕ, zero, suc, ◌+◌, ◌*◌, ◌<◌, ◌≤◌, Bool, true, false, cond, ◌&&◌, ◌||◌, List, [], ◌∷◌, ◌++◌, length, refl, sym, ap, subst, append_assoc, arith}
-use Rattle.std.specs.Prelude.{nat_eq, nat_lt, count_by}
+use Rattle.std.proofs.Common.{◌≡◌, ℕ, zero, suc, ◌+◌, ◌*◌, ◌<◌, ◌≤◌, Bool, true, false, cond, ◌&&◌, List, [], ◌∷◌, ◌++◌, length, refl, sym, ap, subst, append_assoc, arith}
+use Rattle.std.specs.Prelude.{nat_lt, count_by}
 use Rattle.std.proofs.Math.Nat.{mul-le-mul}
 use Rattle.std.proofs.lemmas.Bool.{eq-eqb, ne_eqb, cases_eq}
 use Rattle.std.proofs.lemmas.List.{length-append}
@@ -8,7 +8,7 @@ use Rattle.std.proofs.lemmas.List.Sums.{sum_by-cons, count_by-le-length}
 use mathlib.Core.Logic.{inl, inr}
 use Rattle.mc_model.specs.Numbers.{numbers_from, pairs_at, pairs_below}
 use Rattle.mc_model.specs.Bits.{Bits, replaced}
-use Rattle.mc_model.specs.Signals.{Signals, Signal, is_empty}
+use Rattle.mc_model.specs.Signals.{Signals, is_empty}
 use Rattle.mc_model.specs.Pattern.{Command, Pattern, Prep, Ent, Meas, FixX, FixZ}
 use Rattle.mc_model.specs.Valid.{prepared, measured, IsValid, IsValidPattern}
 use Rattle.mc_model.specs.StandardForm.{preparations_of, is_edge, measurements_with, fix_x, fix_z, corrections_below, first_sum, second_sum, standard_commands, standard_form}

@@ -14,15 +14,19 @@ Descends a b =
     ⊎ ((a.size ≡ b.size) × ((a.wrong < b.wrong) ⊎ ((a.wrong ≡ b.wrong) × (a.turned < b.turned))))))
 
 -- a use of a rule in a valid list leaves a valid list of lower rank with the same standard form
+pub record Improvement (inputs : ℕ) (rule : Rule) (place : ℕ) (cs ds : List Command) : Type 0 where
+  pub step : Step inputs rule place cs ds
+  pub lower : IsLower (rank ds) (rank cs)
+  pub descends : Descends (rank ds) (rank cs)
+  pub grows : length ds ≤ length cs + 1
+  pub same : standard_commands inputs cs ≡ standard_commands inputs ds
+
+-- some use does
 pub record Improves (inputs : ℕ) (cs : List Command) : Type 0 where
   pub rule : Rule
   pub place : ℕ
   pub next : List Command
-  pub step : Step inputs rule place cs next
-  pub lower : IsLower (rank next) (rank cs)
-  pub descends : Descends (rank next) (rank cs)
-  pub grows : length next ≤ length cs + 1
-  pub same : standard_commands inputs cs ≡ standard_commands inputs next
+  pub improved : Improvement inputs rule place cs next
 
 -- what the standard form of a valid list is
 pub record IsReached (inputs : ℕ) (cs : List Command) : Type 0 where

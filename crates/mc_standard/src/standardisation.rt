@@ -1,6 +1,10 @@
 //! Standardisation.
 
-ghost use Rattle.std.specs.Prelude.{◌≡◌, [], ◌∷◌, ◌++◌, List, IfOk, OnOk, map};
+ghost use Rattle.std.specs.Prelude.{◌≡◌, ℕ, ◌<◌, [], ◌∷◌, ◌++◌, List, IfOk, OnOk, map};
+ghost use Rattle.mc_model.specs.Bits.{Bits};
+ghost use Rattle.mc_model.specs.Ring.{ring};
+ghost use Rattle.mc_model.specs.Alike.{AlikeBranches};
+ghost use Rattle.mc_model.specs.StandardForm.{standard_form};
 ghost use Rattle.mc_model.specs.Pattern.{Command as Plain};
 ghost use Rattle.mc_pattern.specs.Commands.{plain_command};
 ghost use Rattle.mc_pattern.specs.Patterns.{begun, with_outputs};
@@ -8,10 +12,11 @@ ghost use Rattle.mc_standard.specs.Cut.{AreParts};
 ghost use Rattle.mc_standard.specs.Parts.{IsStandardForm};
 
 use crate::listing::{append, copied};
+use crate::rewriter::Rewriter;
 use crate::standard::{Fix, Measure, Standard};
 use mc_model::Memory;
 use mc_names::Names;
-use mc_pattern::Command;
+use mc_pattern::{Command, Pattern};
 use std::alloc::Global;
 
 /// The four parts of a list of commands.
@@ -105,4 +110,27 @@ fn standard_of<const H: usize>(
         measures: parts.measures,
         fixes: parts.fixes,
     })
+}
+
+/// The standard form of a pattern: the same names and outputs, and of the commands the closed sums (Danos, Kashefi and
+/// Panangaden 2007). At every outcome list its branch map is that of the pattern, up to one phase.
+pub fn standardise<const H: usize>(alloc: Global, p: &Pattern<H>) -> Result<Standard<H>, Memory>
+    ensures form { IfOk result (λ standard. standard ≡ standard_form p.now) }
+    ensures alike { IfOk result (λ standard. (half : ℕ) → 0 < half → (o : Bits) →
+        AlikeBranches (ring half) p.now o standard o) }
+{
+    // the proof needs that the pattern is valid
+    let _names = p.names();
+    let mut rewriter = Rewriter::new(alloc, p)?;
+    'uses: while rewriter.step()?.is_some() {}
+    let names = rewriter.names().copy()?;
+    let commands = rewriter.commands();
+    let standard = standard_of(
+        alloc,
+        names,
+        rewriter.inputs(),
+        commands,
+        rewriter.outputs(),
+    )?;
+    Ok(standard)
 }

@@ -18,6 +18,7 @@ pub(crate) fn read_line<S: Section>(
     section: &mut S,
 ) -> Result<Option<Head>, TextEnd>
     ensures ok { IfOk result (TakesLine S.rules S.means section.old section.new last words.old) }
+    ensures given { OnOk result (S.given section.new ≡ S.given section.old) }
     ensures whole { OnOk result (words.new.here ≡ []) }
     ensures err { IfErr result (StopsInLine S.rules S.means section.old last words.old) }
     ensures later { words.new.later ≡ words.old.later }

@@ -1,2 +1,4 @@
 pub mod Opening
 pub mod Dues
+pub mod ChangesFit
+pub mod Shifts

@@ -4,3 +4,4 @@ pub mod Tasks
 pub mod Documents
 pub mod Spelled
 pub mod Serve
+pub mod Meaning

@@ -1,45 +1,94 @@
 -- What the bytes that come in call for.
-use Rattle.std.specs.Prelude.{◌≡◌, ◌≢◌, ◌⊎◌, ℕ, ◌+◌, List, [], ◌∷◌, length, nat_lt, Bool, if◌then◌else◌, Option, None, Some, Result, Ok, Err, IfSome}
+use Rattle.std.specs.Prelude.{◌≡◌, ◌≢◌, ◌⊎◌, ℕ, ◌+◌, true, false, List, [], ◌∷◌, ◌++◌, length, nat_lt, if◌then◌else◌, Option, None, Some, Result, Ok, Err}
 use Rattle.std.specs.declared.vec.Vec.{Vec}
 use Rattle.std.specs.declared.alloc.Global.{Global}
-use Rattle.mc_model.specs.Bits.{Bits}
-use Rattle.mc_model.specs.Ring.{ring}
-use Rattle.mc_model.specs.Pattern.{Circuit, wires}
-use Rattle.mc_model.specs.Amplitude.{j_count, branch_map, circuit_table}
+use Rattle.mc_model.specs.Pattern.{Circuit, Pattern, wires}
+use Rattle.mc_model.specs.Shift.{ChangeRow, change_of}
+use Rattle.mc_model.specs.Amplitude.{j_count}
 use Rattle.mc_model.specs.Translation.{translation}
+use Rattle.mc_model.specs.StandardForm.{standard_form}
 use Rattle.mc_io.specs.Told.{AppendsWhereTold, AppendsPrefix}
 use Rattle.mc_io.specs.Faults.{Rose}
 use Rattle.mc_lex.specs.declared.end.TextEnd.{TextEnd}
 use Rattle.mc_lex.specs.declared.end.TextEnd.TheVariants as end
 use Rattle.mc_text.specs.Stops.{answered}
+use Rattle.mc_circuit.specs.Canonical.{circuit_text}
 use Rattle.mc_pattern_text.specs.Canonical.{pattern_text}
+use Rattle.mc_pattern_text.specs.ChangeCanonical.{change_text}
+use Rattle.mc_shift.specs.Shifted.{shifted_form}
 use Rattle.mc_top.specs.declared.status.Status.{Status}
 use Rattle.mc_top.specs.declared.status.Status.TheVariants as status
+use Rattle.mc_top.specs.declared.takes.Takes.{Takes}
 use Rattle.mc_top.specs.declared.task.Task.{Task}
-use Rattle.mc_top.specs.declared.task.Task.TheVariants.{Translate}
+use Rattle.mc_top.specs.declared.task.Task.TheVariants.{Translate, Print, Standard, Shift}
 use Rattle.mc_top.specs.Ends.{status_by_end}
-use Rattle.mc_top.specs.Documents.{only_circuits, first_in_text, spelled_circuit}
+use Rattle.mc_top.specs.Documents.{Spelled, circuit, pattern, first_in_text, spelled}
 
 -- the whole answer, or the refusal or the passed limit
 pub data Due : Type 0 where
   answer : List ℕ → Due
   refusal : TextEnd → Due
 
--- the translation of a circuit, of at most 256 qubits
-abbrev pub due_translation : Circuit → Due
-due_translation c =
-    if nat_lt 256 (wires c + j_count c.gates)
-    then refusal (end.Limit 2 (wires c + j_count c.gates))
-    else answer (pattern_text (translation 4 c))
-
--- by the answer to the first fault or limit of the text
+-- by the answer to the first fault or limit
 abbrev pub due_unless : Option TextEnd → Due → Due
 due_unless None due = due
 due_unless (Some end) due = refusal end
 
+-- the kinds of document that a task takes
+abbrev pub takes_of : Task → Takes
+takes_of Translate = record { circuit = true; pattern = false }
+takes_of _ = record { circuit = true; pattern = true }
+
+-- the pattern of a document, where a circuit counts as its translation
+abbrev pub source_of : Spelled → Pattern
+source_of (circuit c) = translation 4 c
+source_of (pattern p change) = p
+
+-- a translation has at most 256 qubits
+abbrev pub source_limit : Spelled → Option TextEnd
+source_limit (circuit c) =
+    if nat_lt 256 (wires c + j_count c.gates)
+    then Some (end.Limit 2 (wires c + j_count c.gates))
+    else None
+source_limit (pattern p change) = None
+
+-- an end is that of a passed limit; want of memory says nothing
+abbrev pub IsLimit : TextEnd → Option TextEnd → Type 0
+IsLimit end.Memory limit = Unit {0}
+IsLimit end limit = limit ≡ Some end
+
+-- the canonical text of a document
+abbrev pub change_behind : Pattern → Option (List ChangeRow) → List ℕ
+change_behind p None = []
+change_behind p (Some rows) = change_text p rows
+
+abbrev pub document_text : Spelled → List ℕ
+document_text (circuit c) = circuit_text c
+document_text (pattern p change) = pattern_text p ++ change_behind p change
+
+-- the canonical text of the shifted form of a standard form, with the change of outcomes behind it
+abbrev pub shifted_text : Pattern → List ℕ
+shifted_text p = pattern_text (shifted_form p) ++ change_text (shifted_form p) (change_of p.commands)
+
+-- the answer to a document
+abbrev pub due_from : Spelled → (Pattern → List ℕ) → Due
+due_from d text_for = due_unless (source_limit d) (answer (text_for (source_of d)))
+
+abbrev pub due_document : Task → Spelled → Due
+due_document Translate d = due_from d pattern_text
+due_document Print d = answer (document_text d)
+due_document Standard d = due_from d (λ p. pattern_text (standard_form p))
+due_document Shift d = due_from d (λ p. shifted_text (standard_form p))
+
+-- a text without faults spells a document
+abbrev pub due_spelled : Task → Option Spelled → Due
+due_spelled task None = answer []
+due_spelled task (Some d) = due_document task d
+
+-- by the answer to the first fault or limit of the text
 abbrev pub due_for : Task → List ℕ → Due
-due_for Translate text =
-    due_unless (answered (first_in_text only_circuits text)) (due_translation (spelled_circuit 4 text))
+due_for task text =
+    due_unless (answered (first_in_text 4 (takes_of task) text)) (due_spelled task (spelled 4 text))
 
 -- the most bytes of a text
 abbrev pub most_bytes : ℕ
@@ -88,12 +137,3 @@ Writes _ old new due = new ≡ old
 abbrev pub Notes : Option (List ℕ) → Option (List ℕ) → ℕ → ℕ → List ℕ → Type 0
 Notes old new before now line =
     AppendsWhereTold old new line ⊎ (AppendsPrefix old new line × Rose before now)
-
--- at every outcome list the branch map of a circuit's translation is the circuit's table
-abbrev pub HasTableAtEachBranch : Circuit → Type 0
-HasTableAtEachBranch c = (o : Bits) (y : List Bool) (b : Bits) →
-    branch_map (ring 4) (translation 4 c) o y b ≡ circuit_table (ring 4) c y b
-
--- what the answer to a text means
-abbrev pub Means : Task → List ℕ → Type 0
-Means Translate text = HasTableAtEachBranch (spelled_circuit 4 text)

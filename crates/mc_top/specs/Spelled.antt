@@ -1,9 +1,21 @@
--- The value of a document.
-use Rattle.std.specs.Prelude.{◌≡◌, ℕ, List}
+-- The document of the code as that of the definitions.
+use Rattle.std.specs.Prelude.{ℕ, List, Option, None, Some, ⊤}
+use Rattle.mc_model.specs.Pattern as plain
+use Rattle.mc_model.specs.Shift.{ChangeRow}
+use Rattle.mc_pattern_text.specs.ChangeRows.{IsChangeOf}
 use Rattle.mc_top.specs.declared.document.Document.{Document}
-use Rattle.mc_top.specs.declared.document.Document.TheVariants.{Circuit}
-use Rattle.mc_top.specs.Documents.{spelled_circuit}
+use Rattle.mc_top.specs.declared.document.Document.TheVariants.{Circuit, Pattern}
+use Rattle.mc_top.specs.Documents.{Spelled, circuit, pattern}
 
--- the document is the one that the text spells
-abbrev pub IsSpelled : {h : ℕ} → List ℕ → Document h → Type 0
-IsSpelled {h} text (Circuit circuit) = circuit ≡ spelled_circuit h text
+abbrev pub plain_document : {h : ℕ} → Document h → Spelled
+plain_document (Circuit c) = circuit c
+plain_document (Pattern p change) = pattern p change
+
+-- a change, where there is one, has the measured qubits of the pattern in order
+abbrev pub FitsPattern : plain.Pattern → Option (List ChangeRow) → Type 0
+FitsPattern p None = ⊤
+FitsPattern p (Some rows) = IsChangeOf p rows
+
+abbrev pub Fits : {h : ℕ} → Document h → Type 0
+Fits (Circuit c) = ⊤
+Fits (Pattern p change) = FitsPattern p change

@@ -3,6 +3,7 @@
 
 mod document;
 mod note;
+mod passes;
 mod status;
 mod takes;
 mod task;

@@ -100,6 +100,156 @@ fn translates_circuits(rt: HostRuntime) -> Result<(), Fail> {
     )
 }
 
+const TWO_GATES: &str = "circuit 1\nin a\nj a 1\nj a 2\nout a\nend\n";
+
+const TWO_GATES_STANDARD: &str =
+    "pattern 1\nin a\nn q1\nn q2\ne a q1\ne q1 q2\nm a 7\nm q1 6 s: a\nx q2 q1\nz q2 a\nout q2\nend\n";
+
+const WILD: &str = "pattern 1\nin a b\nm a 0\nz b a\nx b a\nout b\nend\n";
+
+const WILD_STANDARD: &str = "pattern 1\nin a b\nm a 0\nx b a\nz b a\nout b\nend\n";
+
+const THREE_GATES: &str = "circuit 1\nin a\nj a 1\nj a 2\nj a 3\nout a\nend\n";
+
+const THREE_GATES_SHIFTED: &str =
+    "pattern 1\nin a\nn q1\nn q2\nn q3\ne a q1\ne q1 q2\ne q2 q3\nm a 7\nm q1 6 s: a\nm q2 5 s: q1\nx q3 a q2\nz q3 q1\nout q3\nend\nchange 1\no a\no q1\no q2 a\nend\n";
+
+/// Serves a word on each text, and compares the answer with the one beside it.
+fn answers(rt: &impl Abort, alloc: Global, word: &str, rows: &[(&str, &str)]) -> Result<(), Fail> {
+    for row in rows {
+        check(rt, alloc, word, row.0.as_bytes(), (Status::Done, row.1, ""))?;
+    }
+    Ok(())
+}
+
+#[test]
+fn prints_standard_forms(rt: HostRuntime) -> Result<(), Fail> {
+    let rows = [
+        (TWO_GATES, TWO_GATES_STANDARD),
+        (TWO_GATES_STANDARD, TWO_GATES_STANDARD),
+        (WILD, WILD_STANDARD),
+        (WILD_STANDARD, WILD_STANDARD),
+        (
+            "circuit 1\nin a b\ncz a b\ncz a b\nout a b\nend\n",
+            "pattern 1\nin a b\nout a b\nend\n",
+        ),
+    ];
+    answers(&rt, rt.alloc(), "standard", rows.as_slice())
+}
+
+#[test]
+fn prints_shifted_forms(rt: HostRuntime) -> Result<(), Fail> {
+    let rows = [(THREE_GATES, THREE_GATES_SHIFTED)];
+    answers(&rt, rt.alloc(), "shift", rows.as_slice())
+}
+
+#[test]
+fn prints_documents(rt: HostRuntime) -> Result<(), Fail> {
+    let rows = [
+        (
+            "circuit 1\r\n# note\n\tin  a\nj a -1\nout a\nend",
+            "circuit 1\nin a\nj a 7\nout a\nend\n",
+        ),
+        (ONE_GATE_PATTERN, ONE_GATE_PATTERN),
+        (
+            "pattern 1\nin a\nn q1\ne a q1\nm a 7\nx q1 a\nout q1\nend",
+            ONE_GATE_PATTERN,
+        ),
+        (
+            "pattern 1\nin a b c\nm a 1\nm b -1\nm c 9 s: b a t: a\nout\nend\n",
+            "pattern 1\nin a b c\nm a 1\nm b 7\nm c 1 s: a b t: a\nout\nend\n",
+        ),
+        (THREE_GATES_SHIFTED, THREE_GATES_SHIFTED),
+    ];
+    answers(&rt, rt.alloc(), "print", rows.as_slice())
+}
+
+/// Prints each text, and compares the code, the line and the column of its refusal.
+fn refusals(
+    rt: &impl Abort,
+    alloc: Global,
+    rows: &[(&str, (u8, u32, u32), &str)],
+) -> Result<(), Fail> {
+    for row in rows {
+        let status = Status::Refused {
+            code: row.1.0,
+            line: row.1.1,
+            column: row.1.2,
+        };
+        check(rt, alloc, "print", row.0.as_bytes(), (status, "", row.2))?;
+    }
+    Ok(())
+}
+
+#[test]
+fn refuses_patterns(rt: HostRuntime) -> Result<(), Fail> {
+    let rows = [
+        (
+            "pattern 1\nin a b\nm a 0 s: b\nm b 0\nout\nend\n",
+            (17, 3, 10),
+            "mcalc: refused 17 at 3:10\n",
+        ),
+        (
+            "pattern 1\nin a\nn q1\ne a q1\nm a 7\nx q1 a\nout q1\n",
+            (20, 8, 1),
+            "mcalc: refused 20 at 8:1\n",
+        ),
+        (
+            "pattern 1\nin a\nn q1\ne a q1\nm a 7\nx q1 a\nout q1\nen",
+            (6, 8, 1),
+            "mcalc: refused 6 at 8:1\n",
+        ),
+        (
+            "pattern 1\nin a\nout a\nend\ngraph 1\n",
+            (21, 5, 1),
+            "mcalc: refused 21 at 5:1\n",
+        ),
+        (
+            "pattern 1\nin a\nm a 0\nout\nend\nchange 1\nend\n",
+            (22, 7, 1),
+            "mcalc: refused 22 at 7:1\n",
+        ),
+    ];
+    refusals(&rt, rt.alloc(), rows.as_slice())
+}
+
+/// A circuit of so many inputs and no gates, whose text is canonical.
+fn wires(alloc: Global, count: u16) -> Result<Vec<u8>, Fail> {
+    let mut names = Vec::new(alloc);
+    for number in 0..count {
+        names.extend_from_slice(b" w")?;
+        for digit in [number / 100, number / 10 % 10, number % 10] {
+            names.push(b'0' + digit as u8)?;
+        }
+    }
+    let mut text = Vec::from_slice(alloc, b"circuit 1\nin")?;
+    text.extend_from_slice(names.as_slice())?;
+    text.extend_from_slice(b"\nout")?;
+    text.extend_from_slice(names.as_slice())?;
+    text.extend_from_slice(b"\nend\n")?;
+    Ok(text)
+}
+
+#[test]
+fn counts_names(rt: HostRuntime) -> Result<(), Fail> {
+    let alloc = rt.alloc();
+    let most = wires(alloc, 256)?;
+    let words = listed(alloc, "print")?;
+    let mut source = HonestSource::new(Vec::from_slice(alloc, most.as_slice())?);
+    let mut out = HonestSink::new(alloc, 4096)?;
+    let mut note = HonestSink::new(alloc, 96)?;
+    let status = serve(alloc, words.as_slice(), &mut source, &mut out, &mut note);
+    assert_eq!(&rt; status, Status::Done);
+    assert_eq!(&rt; out.bytes(), most.as_slice());
+    let more = wires(alloc, 257)?;
+    let passed = Status::Limit {
+        which: 2,
+        found: 257,
+    };
+    let note = "mcalc: limit 2 found 257\n";
+    check(&rt, alloc, "print", more.as_slice(), (passed, "", note))
+}
+
 #[test]
 fn refuses_texts(rt: HostRuntime) -> Result<(), Fail> {
     let alloc = rt.alloc();

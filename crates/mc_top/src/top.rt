@@ -7,7 +7,8 @@ ghost use Rattle.mc_io.specs.Faults.{Rose};
 ghost use Rattle.mc_io.specs.Told.{TakesAtMost, TellsAsBefore};
 ghost use Rattle.mc_top.specs.Status.{note_of};
 ghost use Rattle.mc_top.specs.Tasks.{task_in, IsListed};
-ghost use Rattle.mc_top.specs.Serve.{IsStatus, IsAnswered, IsUnwritten, Writes, Notes, Means, due_of, status_of};
+ghost use Rattle.mc_top.specs.Serve.{IsStatus, IsAnswered, IsUnwritten, Writes, Notes, due_of, status_of};
+ghost use Rattle.mc_top.specs.Meaning.{Means};
 
 use crate::note::note as status_line;
 use crate::status::Status;

@@ -2,7 +2,6 @@ use Rattle.std.proofs.Common.{map, subst, sym}
 use Rattle.mc_pattern.specs.Commands.{plain_command}
 use Rattle.mc_standard.specs.Parts.{IsStandardForm}
 use Rattle.mc_standard.proofs.CutParts.{cut_pattern}
-use Rattle.mc_standard.proofs.StandardPatterns.{standard_pattern}
 use Rattle.mc_standard.proofs.standardisation.standard_of.Goals as goal
 
 pub invariant_of-result-2 : goal.invariant_of-result-2

@@ -25,6 +25,7 @@ tokens-preserved g c =
           front
           takes c.behind-point.ensures (invariant.going before m e);
       same = takes.same_rules ∙ invariant.same;
+      given = c.in_default.ensures.given ∙ invariant.given;
       lack = ap (λ (l : Left). l.lack) left ∙ invariant.lack;
       later = ap (λ (l : Left). l.later) left ∙ invariant.later;
       last = ap (λ (l : Left). l.last) left ∙ invariant.last;

@@ -12,6 +12,7 @@ invariant-tokens g l = record {
       → Going g.S.Section.rules g.S.Section.means (g.S.Section.rules l.initial.section) before
       l.section l.point l.initial.words.here l.words.here l.initial.words.lack;
   same : g.S.Section.rules l.section ≡ g.S.Section.rules l.initial.section;
+  given : g.S.Section.given l.section ≡ g.S.Section.given l.initial.section;
   lack : l.words.lack ≡ l.initial.words.lack;
   later : l.words.later ≡ l.initial.words.later;
   last : l.words.last ≡ l.initial.words.last;

@@ -29,6 +29,7 @@ lines-preserved g c =
     let read = c.in-Ok.ensures in
     record {
       done = rw read.later more;
+      given = read.given ∙ invariant.given;
       last = read.end ∙ last_kept c.lines.words.later _ _ left;
       further = further-read _ _ _ _ invariant.further c.next_line.ensures.left read.further;
     }

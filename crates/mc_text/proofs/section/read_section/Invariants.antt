@@ -7,6 +7,7 @@ abbrev pub invariant-lines : goal.invariant-lines
 invariant-lines g l = record {
   done : Done g.S.Section.rules g.S.Section.means (g.S.Section.rules l.initial.section) l.section
       l.last l.initial.words.later l.words.later l.initial.words.last;
+  given : g.S.Section.given l.section ≡ g.S.Section.given l.initial.section;
   last : l.words.last ≡ l.initial.words.last;
   further : IsFurther l.initial.words l.words;
 }

@@ -1,56 +1,48 @@
-use Rattle.std.proofs.Common.{◌≡◌, ◌∙◌, Some, sym, ap}
-use Rattle.mc_lex.specs.declared.kind.Kind.TheVariants.{Circuit}
-use Rattle.mc_text.specs.Judged.{section_lines}
-use Rattle.mc_circuit.specs.Value.{circuit_of}
+use Rattle.std.proofs.Common.{◌≡◌, ◌∙◌, sym}
 use Rattle.mc_text.specs.Stops.{IsEnd}
-use Rattle.mc_top.proofs.Opening.{IsOpened, opened_first, opened_lines}
+use Rattle.mc_top.proofs.Opening.{IsOpened, opened_first, opened_spelled}
 use Rattle.mc_top.proofs.document.read_document.Goals as goal
 
-pub returns-in-Ok-read_circuit_document-clause-clean :
-    goal.returns-in-Ok-read_circuit_document-clause-clean
-returns-in-Ok-read_circuit_document-clause-clean g c =
+pub returns-in-Ok-read_sections-clause-clean : goal.returns-in-Ok-read_sections-clause-clean
+returns-in-Ok-read_sections-clause-clean g c =
     let o : IsOpened c.args.text.now c.new-words.result c.next_line.new.self c.read_header.new.words
-    Circuit (c.in-Ok.header.line, c.in-Ok.header.column) =
+    c.in-Ok.header.kind (c.in-Ok.header.line, c.in-Ok.header.column) =
     record {
       begins = c.new-words.ensures.lines;
       some = sym c.next_line.ensures.found ∙ c.if-not-next_line.false;
       opens = c.next_line.ensures.left;
-      header = rw c.in-Circuit.is at c.in-Ok.ensures.header;
+      header = c.in-Ok.ensures.header;
       later = c.read_header.ensures.later;
       last = c.read_header.ensures.end;
     } in
-    opened_first c.args.takes c.args.text.now _ _ _ _ _ o c.in-Ok.ensures.clean
-    ∙ c.in-Ok-read_circuit_document.ensures.clean
+    opened_first g.row.H c.args.takes c.args.text.now _ _ _ _ _ o c.in-Ok.ensures.clean
+    ∙ c.in-Ok-read_sections.ensures.clean
 
-pub returns-in-Ok-read_circuit_document-clause-value :
-    goal.returns-in-Ok-read_circuit_document-clause-value
-returns-in-Ok-read_circuit_document-clause-value g c =
+pub returns-in-Ok-read_sections-clause-value : goal.returns-in-Ok-read_sections-clause-value
+returns-in-Ok-read_sections-clause-value g c =
     let o : IsOpened c.args.text.now c.new-words.result c.next_line.new.self c.read_header.new.words
-    Circuit (c.in-Ok.header.line, c.in-Ok.header.column) =
+    c.in-Ok.header.kind (c.in-Ok.header.line, c.in-Ok.header.column) =
     record {
       begins = c.new-words.ensures.lines;
       some = sym c.next_line.ensures.found ∙ c.if-not-next_line.false;
       opens = c.next_line.ensures.left;
-      header = rw c.in-Circuit.is at c.in-Ok.ensures.header;
+      header = c.in-Ok.ensures.header;
       later = c.read_header.ensures.later;
       last = c.read_header.ensures.end;
     } in
-    c.in-Ok-read_circuit_document.ensures.value
-    ∙ ap (λ lines. circuit_of g.row.H (section_lines lines))
-    (sym (opened_lines c.args.text.now _ _ _ _ _ o))
+    opened_spelled g.row.H c.args.text.now _ _ _ _ _ o ∙ c.in-Ok-read_sections.ensures.value
 
-pub returns-in-Err-read_circuit_document-clause-err :
-    goal.returns-in-Err-read_circuit_document-clause-err
-returns-in-Err-read_circuit_document-clause-err g c =
+pub returns-in-Err-read_sections-clause-err : goal.returns-in-Err-read_sections-clause-err
+returns-in-Err-read_sections-clause-err g c =
     let o : IsOpened c.args.text.now c.new-words.result c.next_line.new.self c.read_header.new.words
-    Circuit (c.in-Ok.header.line, c.in-Ok.header.column) =
+    c.in-Ok.header.kind (c.in-Ok.header.line, c.in-Ok.header.column) =
     record {
       begins = c.new-words.ensures.lines;
       some = sym c.next_line.ensures.found ∙ c.if-not-next_line.false;
       opens = c.next_line.ensures.left;
-      header = rw c.in-Circuit.is at c.in-Ok.ensures.header;
+      header = c.in-Ok.ensures.header;
       later = c.read_header.ensures.later;
       last = c.read_header.ensures.end;
     } in
-    rw (opened_first c.args.takes c.args.text.now _ _ _ _ _ o c.in-Ok.ensures.clean)
-    c.in-Err-read_circuit_document.ensures.err
+    rw (opened_first g.row.H c.args.takes c.args.text.now _ _ _ _ _ o c.in-Ok.ensures.clean)
+    c.in-Err-read_sections.ensures.err

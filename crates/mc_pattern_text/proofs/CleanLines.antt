@@ -1,0 +1,399 @@
+-- Nothing is against the lines of a pattern's canonical text.
+use Rattle.std.proofs.Common.{◌≡◌, ℕ, suc, ◌+◌, ◌*◌, ◌<◌, ◌≤◌, Bool, true, false, ◌&&◌, All, List, [], ◌∷◌, ◌++◌, length, map, take, drop, fold, codes, refl, sym, subst, ap, ◌∙◌, append_assoc, arith, ne_eqb, nat_le, ◌⊎◌, Option, Some, None, IsTrue, if◌then◌else◌}
+use Rattle.std.specs.Fmt.{decimal}
+use Rattle.std.specs.List.{list_all}
+use Rattle.std.specs.Option.{option_or}
+use Rattle.std.proofs.lemmas.List.Sums.{fold-append}
+use mathlib.Core.Logic.{inl, inr}
+use Rattle.mc_angle.specs.Number.{is_number, is_digit}
+use Rattle.std.proofs.lemmas.Bool.{eqb-true}
+use Rattle.std.proofs.lemmas.Bool.Decides.{nat_tests}
+use Rattle.std.proofs.lemmas.List.{append-nil, length-take-le}
+use Rattle.mc_model.specs.Names.{Name, AreNames, is_name, is_name_byte}
+use Rattle.mc_model.specs.Pattern.{Command, Prep, Ent, Meas, FixX, FixZ}
+use Rattle.mc_model.specs.Steps.{is_permitted}
+use Rattle.mc_model.specs.Valid.{FitsBehind, prepared}
+use Rattle.mc_model.proofs.ValidLemmas.{prepared-append}
+use Rattle.mc_angle.proofs.Numerals.{angle-decimal, number-decimal}
+use Rattle.mc_pattern.specs.Typed.{IsTyped}
+use Rattle.mc_write.specs.Named.{name_at}
+use Rattle.mc_text.specs.declared.point.Mark.{Mark}
+use Rattle.mc_text.specs.declared.point.Mark.TheVariants.{S, T}
+use Rattle.mc_text.specs.Heads.{head_of}
+use Rattle.mc_text.specs.Points.{mark_of, point_of}
+use Rattle.mc_text.specs.Judged.{Words, Lines}
+use Rattle.mc_text.specs.Rules.{new_name}
+use Rattle.mc_text.specs.Lists.{names_at}
+use Rattle.mc_text.proofs.Going.{head_at}
+use Rattle.mc_text.proofs.Kept.{count_at, name_no_mark}
+use Rattle.mc_text.proofs.Clean.{CleanWords}
+use Rattle.mc_text.proofs.Naming.{is_name-name_at, distinct_front, names_apart}
+use Rattle.mc_pattern_text.specs.Roles.{role_in, role_of, role_behind, is_defining}
+use Rattle.mc_pattern_text.specs.Value.{is_first, is_second, word_under, words_under}
+use Rattle.mc_pattern_text.specs.Judge.{measured_in, member_name, pattern_rules}
+use Rattle.mc_pattern_text.specs.Canonical.{marked, command_line}
+use Rattle.mc_pattern_text.proofs.Under.{onto_mark, mark_at}
+use Rattle.mc_pattern_text.proofs.CleanCommands.{AreThere, AreMembers, record_clean, still_clean, signal_members, members_clean, split_at}
+use Rattle.mc_pattern_text.proofs.Parts.{and_both}
+
+-- the role of a word behind the first of a correction
+correction_role : (before : Lines) (h : List ℕ) (w : List ℕ) (list : Words)
+    → role_of (point_of before (h ∷ w ∷ list))
+    ≡ role_in (head_of h) (point_of before (h ∷ w ∷ list)).count
+    (point_of before (h ∷ w ∷ list)).mark
+correction_role before h w list =
+    let count = count_at before (h ∷ w ∷ list) in
+    let some = ne_eqb (point_of before (h ∷ w ∷ list)).count 0 (λ none. omega arith) in
+    rw (some, head_at before (h ∷ w ∷ list)) refl
+
+x_judged : (ns : List Name) (before : Lines) (w word : List ℕ) (list : Words)
+    → pattern_rules.judge before (codes "x" ∷ w ∷ list) word
+    ≡ member_name (names_at is_defining before []) (measured_in before) list word
+x_judged ns before w word list =
+    let p = point_of before (codes "x" ∷ w ∷ list) in
+    let count = count_at before (codes "x" ∷ w ∷ list) in
+    let many = ne_eqb p.count 1 (λ one. omega arith) in
+    rw (correction_role before (codes "x") w list, many, head_at before (codes "x" ∷ w ∷ list)) refl
+
+z_judged : (ns : List Name) (before : Lines) (w word : List ℕ) (list : Words)
+    → pattern_rules.judge before (codes "z" ∷ w ∷ list) word
+    ≡ member_name (names_at is_defining before []) (measured_in before) list word
+z_judged ns before w word list =
+    let p = point_of before (codes "z" ∷ w ∷ list) in
+    let count = count_at before (codes "z" ∷ w ∷ list) in
+    let many = ne_eqb p.count 1 (λ one. omega arith) in
+    rw (correction_role before (codes "z") w list, many, head_at before (codes "z" ∷ w ∷ list)) refl
+
+x_lacks : (before : Lines) (w : List ℕ) (list : Words)
+    → pattern_rules.lacks before (codes "x" ∷ w ∷ list) ≡ None
+x_lacks before w list =
+    let p = point_of before (codes "x" ∷ w ∷ list) in
+    let count = count_at before (codes "x" ∷ w ∷ list) in
+    let many = ne_eqb p.count 1 (λ one. omega arith) in
+    rw (correction_role before (codes "x") w list, many) refl
+
+z_lacks : (before : Lines) (w : List ℕ) (list : Words)
+    → pattern_rules.lacks before (codes "z" ∷ w ∷ list) ≡ None
+z_lacks before w list =
+    let p = point_of before (codes "z" ∷ w ∷ list) in
+    let count = count_at before (codes "z" ∷ w ∷ list) in
+    let many = ne_eqb p.count 1 (λ one. omega arith) in
+    rw (correction_role before (codes "z") w list, many) refl
+
+-- words without marks
+abbrev pub AreUnmarked : Words → Type 0
+AreUnmarked words = (mark : Option Mark) → (fold onto_mark mark words ≡ mark)
+    × ((test : Option Mark → Bool) → words_under test mark words
+    ≡ (if test mark then words else []))
+
+unmarked-cons : (w : List ℕ) (words : Words) → mark_of w ≡ None → AreUnmarked words
+    → AreUnmarked (w ∷ words)
+unmarked-cons w words none rest mark = (
+  rw none (rest mark).0,
+  λ test. rw (none, (rest mark).1 test) (both (test mark)),
+)
+  where
+    both : (t : Bool) → (if t then w ∷ [] else []) ++ (if t then words else [])
+        ≡ (if t then w ∷ words else [])
+    both true = refl
+    both false = refl
+
+unmarked_none : AreUnmarked []
+unmarked_none mark = (refl, λ test. either (test mark))
+  where
+    either : (t : Bool) → let none : Words = [] in none ≡ (if t then none else none)
+    either true = refl
+    either false = refl
+
+pub names_unmarked : (ns : List Name) (qs : List ℕ) → AreNames ns → All (λ q. q < length ns) qs
+    → AreUnmarked (map (name_at ns) qs)
+names_unmarked ns [] valid below = unmarked_none
+names_unmarked ns (q ∷ qs) valid below =
+    let lt : q < length ns = below 0 q (omega arith) in
+    unmarked-cons (name_at ns q) (map (name_at ns) qs)
+    (name_no_mark (name_at ns q) (is_name-name_at ns q valid lt))
+    (names_unmarked ns qs valid (λ k d l. below (suc k) d (omega arith)))
+
+-- the words of a measurement behind its angle
+m_role : (before : Lines) (w a : List ℕ) (words : Words)
+    → role_of (point_of before (codes "m" ∷ w ∷ a ∷ words))
+    ≡ role_behind (fold onto_mark None (w ∷ a ∷ words))
+m_role before w a words =
+    let here = codes "m" ∷ w ∷ a ∷ words in
+    let p = point_of before here in
+    let count = count_at before here in
+    let none = ne_eqb p.count 0 (λ e. omega arith) in
+    let one = ne_eqb p.count 1 (λ e. omega arith) in
+    let two = ne_eqb p.count 2 (λ e. omega arith) in
+    rw (none, head_at before here, one, two, mark_at before (codes "m") (w ∷ a ∷ words)) refl
+
+-- a number is a name, and so no mark
+digit_name : (b : ℕ) → is_digit b ≡ true → is_name_byte b ≡ true
+digit_name b e = grind (arith, nat_tests)
+
+digits_name : (w : List ℕ) → list_all is_digit w ≡ true → list_all is_name_byte w ≡ true
+digits_name [] all = refl
+digits_name (b ∷ w) all =
+    let both = and_both (is_digit b) (list_all is_digit w) all in
+    rw (digit_name b both.0, digits_name w both.1) refl
+
+number_name : (w : List ℕ) → is_number w ≡ true → is_name w ≡ true
+number_name w e =
+    let parts = and_both (nat_le 1 (length w) && nat_le (length w) 4) (list_all is_digit w) e in
+    let sizes = and_both (nat_le 1 (length w)) (nat_le (length w) 4) parts.0 in
+    rw (sizes.0, longer (length w) sizes.1, digits_name w parts.1) refl
+  where
+    longer : (n : ℕ) → nat_le n 4 ≡ true → nat_le n 16 ≡ true
+    longer n e = grind (arith, nat_tests)
+
+pub decimal_no_mark : (half a : ℕ) → IsTrue (is_permitted half) → a < 2 * half
+    → mark_of (decimal a) ≡ None
+decimal_no_mark half a permitted lt =
+    let four : half ≡ 4 = eqb-true half 4 permitted in
+    name_no_mark (decimal a) (number_name (decimal a) (number-decimal a (omega arith)).0)
+
+-- the words under a mark, behind others
+pub under-append : (test : Option Mark → Bool) (mark : Option Mark) (xs ys : Words)
+    → words_under test mark (xs ++ ys)
+    ≡ words_under test mark xs ++ words_under test (fold onto_mark mark xs) ys
+under-append test mark [] ys = refl
+under-append test mark (x ∷ xs) ys =
+    rw (under-append test (option_or (mark_of x) mark) xs ys)
+    (sym (append_assoc (word_under test mark x) (words_under test (option_or (mark_of x) mark) xs)
+    (words_under test (fold onto_mark (option_or (mark_of x) mark) xs) ys)))
+
+-- the first signal, behind the angle
+record AreFirst (firsts : Words) : Type 0 where
+  mark : (fold onto_mark None firsts ≡ None) ⊎ (fold onto_mark None firsts ≡ Some S)
+  none : words_under is_second None firsts ≡ []
+
+first_words : (ns : List Name) (qs : List ℕ) → AreNames ns → All (λ q. q < length ns) qs
+    → AreFirst (marked (codes "s:") ns qs)
+first_words ns [] valid below = record { mark = inl refl; none = refl }
+first_words ns (q ∷ qs) valid below =
+    let plain = names_unmarked ns (q ∷ qs) valid below in
+    record { mark = inr (plain (Some S)).0; none = (plain (Some S)).1 is_second }
+
+module _ (before : Lines) (w a : List ℕ) (no_w : mark_of w ≡ None) (no_a : mark_of a ≡ None) where
+  s_judged : pattern_rules.judge before (codes "m" ∷ w ∷ a ∷ []) (codes "s:") ≡ None
+  s_judged = rw (m_role before w a [], no_w, no_a) refl
+
+  first_judged : (list : Words) (word : List ℕ) → AreUnmarked list → mark_of word ≡ None
+      → pattern_rules.judge before (codes "m" ∷ w ∷ a ∷ codes "s:" ∷ list) word
+      ≡ member_name (names_at is_defining before []) (measured_in before) list word
+  first_judged list word plain none =
+      let here = codes "m" ∷ w ∷ a ∷ codes "s:" ∷ list in
+      let mark = (plain (Some S)).0 in
+      let under = (plain (Some S)).1 is_first in
+      rw (
+        m_role before w a (codes "s:" ∷ list),
+        head_at before here,
+        mark_at before (codes "m") (w ∷ a ∷ codes "s:" ∷ list),
+        no_w,
+        no_a,
+        mark,
+        under,
+        none,
+        append-nil list,
+      ) refl
+
+  firsts_end : (firsts : Words) → AreFirst firsts
+      → pattern_rules.lacks before (codes "m" ∷ w ∷ a ∷ firsts) ≡ None
+  firsts_end firsts first = elim first.mark [
+    | inl none ↦ rw (m_role before w a firsts, no_w, no_a, none) refl
+    | inr some ↦ rw (m_role before w a firsts, no_w, no_a, some) refl
+  ]
+
+  t_judged : (firsts : Words) → AreFirst firsts
+      → pattern_rules.judge before (codes "m" ∷ w ∷ a ∷ firsts) (codes "t:") ≡ None
+  t_judged firsts first = elim first.mark [
+    | inl none ↦ rw (m_role before w a firsts, no_w, no_a, none) refl
+    | inr some ↦ rw (m_role before w a firsts, no_w, no_a, some) refl
+  ]
+
+  t_mark : (firsts list : Words) → AreUnmarked list
+      → fold onto_mark None (firsts ++ codes "t:" ∷ list) ≡ Some T
+  t_mark firsts list plain =
+      fold-append onto_mark None firsts (codes "t:" ∷ list) ∙ (plain (Some T)).0
+
+  two_marks : (words : Words) → fold onto_mark None (w ∷ a ∷ words) ≡ fold onto_mark None words
+  two_marks words =
+      let start : option_or (mark_of a) (option_or (mark_of w) None)
+      ≡ None = rw (no_w, no_a) refl in
+      ap (λ mark. fold onto_mark mark words) start
+
+  pub two_under : (test : Option Mark → Bool) (words : Words) → test None ≡ false
+      → words_under test None (w ∷ a ∷ words) ≡ words_under test None words
+  two_under test words none =
+      let start : option_or (mark_of a) (option_or (mark_of w) None)
+      ≡ None = rw (no_w, no_a) refl in
+      let first : word_under test None w ≡ [] = rw (no_w, none) refl in
+      let second : word_under test (option_or (mark_of w) None) a
+      ≡ [] = rw (no_a, no_w, none) refl in
+      ap (λ ws. ws ++ (word_under test (option_or (mark_of w) None) a
+      ++ words_under test (option_or (mark_of a) (option_or (mark_of w) None)) words)) first
+      ∙ ap (λ ws. ws ++ words_under test (option_or (mark_of a) (option_or (mark_of w) None)) words)
+      second
+      ∙ ap (λ mark. words_under test mark words) start
+
+  t_last : (firsts list : Words) → AreUnmarked list
+      → fold onto_mark None (w ∷ a ∷ (firsts ++ codes "t:" ∷ list)) ≡ Some T
+  t_last firsts list plain =
+      two_marks (firsts ++ codes "t:" ∷ list) ∙ t_mark firsts list plain
+
+  second_list : (firsts list : Words) → AreFirst firsts → AreUnmarked list
+      → words_under is_second None (w ∷ a ∷ (firsts ++ codes "t:" ∷ list)) ≡ list
+  second_list firsts list first plain =
+      two_under is_second (firsts ++ codes "t:" ∷ list) refl
+      ∙ under-append is_second None firsts (codes "t:" ∷ list)
+      ∙ rw first.none ((plain (Some T)).1 is_second)
+
+  second_judged : (firsts list : Words) (word : List ℕ) → AreFirst firsts → AreUnmarked list
+      → pattern_rules.judge before (codes "m" ∷ w ∷ a ∷ (firsts ++ codes "t:" ∷ list)) word
+      ≡ member_name (names_at is_defining before []) (measured_in before) list word
+  second_judged firsts list word first plain =
+      let words = firsts ++ codes "t:" ∷ list in
+      let here = codes "m" ∷ w ∷ a ∷ words in
+      let mark = t_last firsts list plain in
+      let second = second_list firsts list first plain in
+      rw (
+        m_role before w a words,
+        head_at before here,
+        mark_at before (codes "m") (w ∷ a ∷ words),
+        mark,
+        second,
+      ) refl
+
+  second_end : (firsts list : Words) → AreUnmarked list
+      → pattern_rules.lacks before (codes "m" ∷ w ∷ a ∷ (firsts ++ codes "t:" ∷ list)) ≡ None
+  second_end firsts list plain =
+      let mark = t_last firsts list plain in
+      rw (m_role before w a (firsts ++ codes "t:" ∷ list), mark) refl
+
+  first_clean : (ns : List Name) (qs : List ℕ) (tail : Words) → AreNames ns
+      → AreMembers ns (names_at is_defining before []) (measured_in before) qs
+      → CleanWords pattern_rules before (codes "m" ∷ w ∷ a ∷ marked (codes "s:") ns qs) tail
+      → CleanWords pattern_rules before (codes "m" ∷ w ∷ a ∷ []) (marked (codes "s:") ns qs ++ tail)
+  first_clean ns [] tail valid are rest = rest
+  first_clean ns (q ∷ qs) tail valid are rest = (
+    s_judged,
+    members_clean ns (names_at is_defining before []) (measured_in before) before
+        (codes "m" ∷ w ∷ a ∷ codes "s:" ∷ []) [] (q ∷ qs) tail valid are
+        (λ front r below lt. first_judged (map (name_at ns) front) (name_at ns r)
+        (names_unmarked ns front valid below)
+        (name_no_mark (name_at ns r) (is_name-name_at ns r valid lt)))
+        rest,
+  )
+
+  second_clean : (ns : List Name) (firsts : Words) (qs : List ℕ) → AreNames ns → AreFirst firsts
+      → AreMembers ns (names_at is_defining before []) (measured_in before) qs
+      → CleanWords pattern_rules before (codes "m" ∷ w ∷ a ∷ firsts) (marked (codes "t:") ns qs)
+  second_clean ns firsts [] valid first are = firsts_end firsts first
+  second_clean ns firsts (q ∷ qs) valid first are =
+      let here = codes "m" ∷ w ∷ a ∷ (firsts ++ codes "t:" ∷ []) in
+      let along : (list : Words) → here ++ list
+      ≡ codes "m" ∷ w ∷ a ∷ (firsts ++ codes "t:" ∷ list) =
+      λ list. ap (λ ws. codes "m" ∷ w ∷ a ∷ ws) (append_assoc firsts (codes "t:" ∷ []) list) in
+      let all = names_unmarked ns (q ∷ qs) valid are.below in
+      let ends : CleanWords pattern_rules before (here ++ map (name_at ns) (q ∷ qs)) [] =
+      ap (λ (words : Words). pattern_rules.lacks before words) (along (map (name_at ns) (q ∷ qs)))
+      ∙ second_end firsts (map (name_at ns) (q ∷ qs)) all in
+      let members = members_clean ns (names_at is_defining before []) (measured_in before) before
+      here []
+      (q ∷ qs) [] valid are (λ front r below lt.
+      ap (λ (words : Words). pattern_rules.judge before words (name_at ns r))
+      (along (map (name_at ns) front))
+      ∙ second_judged firsts (map (name_at ns) front) (name_at ns r) first
+      (names_unmarked ns front valid below))
+      ends in (
+        t_judged firsts first,
+        subst (λ (words : Words). CleanWords pattern_rules before words (map (name_at ns) (q ∷ qs)))
+            (append-nil here)
+            (subst (λ (words : Words). CleanWords pattern_rules before (here ++ []) words)
+            (append-nil (map (name_at ns) (q ∷ qs))) members),
+      )
+
+-- a command that may stand there
+new_clean : (ns : List Name) (m : ℕ) → AreNames ns → m < length ns
+    → new_name (take m ns) (name_at ns m) ≡ None
+new_clean ns m valid lt =
+    let named = is_name-name_at ns m valid lt in
+    let distinct = rw (split_at ns m lt) at valid.distinct in
+    let free = distinct_front (take m ns) (name_at ns m) (drop (suc m) ns) distinct in
+    let long = length-take-le m ns (omega arith) in
+    let few = valid.few in
+    let room : nat_le 256 (length (take m ns)) ≡ false =
+    late (length (take m ns)) (omega (arith, long, few)) in
+    rw (named, free, room) refl
+  where
+    late : (n : ℕ) → n < 256 → nat_le 256 n ≡ false
+    late n lt = grind (arith, nat_tests)
+
+prepared_one : (q : ℕ) → prepared (Prep q ∷ []) ≡ 1
+unfolding prepared
+prepared_one q = refl
+
+pub command_clean : (half : ℕ) (ns : List Name) (inputs : ℕ) (before : Lines) (done : List Command)
+    (c : Command) → AreThere ns inputs before done → IsTrue (is_permitted half)
+    → inputs + prepared (done ++ c ∷ []) ≤ length ns → length done < 262144
+    → FitsBehind inputs done c → IsTyped half c
+    → CleanWords pattern_rules before [] (command_line ns c)
+command_clean half ns inputs before done (Prep q) h permitted within room fits typed =
+    let more = prepared-append done (Prep q ∷ []) in
+    let one : prepared (Prep q ∷ []) ≡ 1 = prepared_one q in
+    let lt : inputs + prepared done < length ns = omega (arith, within, more, one) in
+    let new = new_clean ns (inputs + prepared done) h.names lt in
+    let record_word = record_clean ns inputs before done (codes "n") h room refl in
+    (record_word, (rw (h.after.defined, fits) new, refl))
+command_clean half ns inputs before done (Ent q r) h permitted within room fits typed =
+    let top = h.within in
+    let lq = fits.0.is_there in
+    let lr = fits.1.is_there in
+    let second = still_clean ns inputs before done r h fits.1 in
+    let apart = names_apart ns q r h.names.distinct (omega arith) (omega arith) fits.2 in (
+      record_clean ns inputs before done (codes "e") h room refl,
+      (still_clean ns inputs before done q h fits.0, (rw (second, apart) refl, refl)),
+    )
+command_clean half ns inputs before done (Meas q a s t) h permitted within room fits typed =
+    let top = h.within in
+    let lq = fits.0.is_there in
+    let no_w = name_no_mark (name_at ns q) (is_name-name_at ns q h.names (omega arith)) in
+    let no_a = decimal_no_mark half a permitted typed.0 in
+    let first = signal_members ns inputs before done s h fits.1 in
+    let second = signal_members ns inputs before done t h fits.2 in
+    let angle = (angle-decimal half a permitted typed.0).0 in (
+      record_clean ns inputs before done (codes "m") h room refl,
+      (
+        still_clean ns inputs before done q h fits.0,
+        (
+          rw angle refl,
+          first_clean before (name_at ns q) (decimal a) no_w no_a ns s.members
+              (marked (codes "t:") ns t.members) h.names first
+              (second_clean before (name_at ns q) (decimal a) no_w no_a ns
+              (marked (codes "s:") ns s.members) t.members h.names
+              (first_words ns s.members h.names first.below) second),
+        ),
+      ),
+    )
+command_clean half ns inputs before done (FixX q s) h permitted within room fits typed =
+    let are = signal_members ns inputs before done s h fits.1 in
+    let w = name_at ns q in
+    let list = map (name_at ns) s.members in
+    let members = members_clean ns (names_at is_defining before []) (measured_in before) before
+    (codes "x" ∷ w ∷ []) [] s.members [] h.names are
+    (λ front r below lt. x_judged ns before w (name_at ns r) (map (name_at ns) front))
+    (x_lacks before w list) in (
+      record_clean ns inputs before done (codes "x") h room refl,
+      (still_clean ns inputs before done q h fits.0, rw (append-nil list) at members),
+    )
+command_clean half ns inputs before done (FixZ q s) h permitted within room fits typed =
+    let are = signal_members ns inputs before done s h fits.1 in
+    let w = name_at ns q in
+    let list = map (name_at ns) s.members in
+    let members = members_clean ns (names_at is_defining before []) (measured_in before) before
+    (codes "z" ∷ w ∷ []) [] s.members [] h.names are
+    (λ front r below lt. z_judged ns before w (name_at ns r) (map (name_at ns) front))
+    (z_lacks before w list) in (
+      record_clean ns inputs before done (codes "z") h room refl,
+      (still_clean ns inputs before done q h fits.0, rw (append-nil list) at members),
+    )

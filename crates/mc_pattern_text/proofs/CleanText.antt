@@ -1,0 +1,348 @@
+-- Nothing is against a pattern's canonical text.
+use Rattle.std.proofs.Common.{◌≡◌, ℕ, zero, suc, ◌+◌, ◌<◌, ◌≤◌, Bool, true, false, not, ◌||◌, All, List, [], ◌∷◌, ◌++◌, length, map, take, drop, codes, refl, sym, ap, ◌∙◌, append_assoc, length-append, arith, eq-eqb, ne_eqb, nat_eq, nat_le, Option, Some, IsTrue, if◌then◌else◌, cond, count_by, get_or}
+use Rattle.std.specs.List.{filter_map, flat_map, list_all, IsDistinct}
+use Rattle.std.proofs.lemmas.Bool.{cases_Bool}
+use Rattle.std.proofs.lemmas.Bool.Decides.{nat_tests}
+use Rattle.std.proofs.lemmas.List.{append-nil, map-append, length-take-le, take-append-drop}
+use Rattle.std.proofs.lemmas.List.Elements.{filter_map-append}
+use Rattle.std.proofs.lemmas.List.Sums.{sum_by-append, sum_by-cons, list_all-from_AllPass}
+use mathlib.Core.Logic.{inl, inr}
+use Rattle.mc_model.specs.Names.{Name, AreNames, name_eq, is_name}
+use Rattle.mc_model.specs.Numbers.{is_member}
+use Rattle.mc_model.specs.Pattern.{Command, Prep, Ent, Meas, FixX, FixZ, Pattern}
+use Rattle.mc_model.specs.Steps.{is_permitted}
+use Rattle.mc_model.specs.Valid.{FitsBehind, IsValid, measured, prepared}
+use Rattle.mc_model.proofs.ValidLemmas.{prepared-append}
+use Rattle.mc_pattern.specs.Patterns.{IsPattern}
+use Rattle.mc_pattern.specs.Rules.{measured_by}
+use Rattle.mc_pattern.specs.Typed.{AllTyped}
+use Rattle.mc_pattern.proofs.Members.{below_by, counts_member, member_counts}
+use Rattle.mc_write.specs.Named.{name_at}
+use Rattle.mc_text.specs.declared.head.Head.{Head}
+use Rattle.mc_text.specs.declared.head.Head.TheVariants.{Out}
+use Rattle.mc_text.specs.Heads.{head_of, head_in, is_end}
+use Rattle.mc_text.specs.Points.{point_of}
+use Rattle.mc_text.specs.Judged.{Words, Lines}
+use Rattle.mc_text.specs.Lists.{names_in, names_at, operand_at}
+use Rattle.mc_text.proofs.Going.{head_at}
+use Rattle.mc_text.proofs.Kept.{count_some, names_at-line}
+use Rattle.mc_text.proofs.Clean.{CleanWords, Clean, last, more}
+use Rattle.mc_text.proofs.Naming.{distinct_front}
+use Rattle.mc_pattern_text.specs.Roles.{may_follow, role_of, role_in, follows_command, is_defining, is_measuring, is_output}
+use Rattle.mc_pattern_text.specs.Value.{spelled_command, spelled_commands}
+use Rattle.mc_pattern_text.specs.Judge.{measured_in, is_settled, pattern_rules}
+use Rattle.mc_pattern_text.specs.Canonical.{command_line, pattern_lines}
+use Rattle.mc_pattern_text.specs.ChangeRows.{measured_order}
+use Rattle.mc_pattern_text.proofs.NamedCommands.{measured_there}
+use Rattle.mc_pattern_text.proofs.CleanCommands.{IsAfter, AreThere, front_distinct, front_more, known_clean, measured_held, held_written}
+use Rattle.mc_pattern_text.proofs.CleanLines.{command_clean}
+use Rattle.mc_pattern_text.proofs.Parts.{all_front, and_both, last_head-line}
+
+-- the lines of one command more
+after_by : (ns : List Name) (inputs : ℕ) (before : Lines) (done : List Command) (c : Command)
+    (here : Words) → IsAfter ns inputs before done
+    → names_at is_defining before here ≡ take (inputs + prepared (done ++ c ∷ [])) ns
+    → filter_map (operand_at 0 is_measuring) (here ∷ [])
+    ≡ map (name_at ns) (measured_order (c ∷ []))
+    → names_at is_output before here ≡ names_at is_output before []
+    → ((h : Option Head) → may_follow (head_in here) h ≡ follows_command h)
+    → length (filter_map spelled_command (here ∷ [])) ≡ 1
+    → IsAfter ns inputs (before ++ here ∷ []) (done ++ c ∷ [])
+after_by ns inputs before done c here h defined operand outputs follows spelled = record {
+  defined = names_at-line is_defining before here ∙ defined;
+  measured =
+      filter_map-append (operand_at 0 is_measuring) before (here ∷ [])
+      ∙ rw (
+        h.measured,
+        operand,
+        filter_map-append measured_by done (c ∷ []),
+        map-append (name_at ns) (measured_order done) (measured_order (c ∷ [])),
+      ) refl;
+  none = names_at-line is_output before here ∙ outputs ∙ h.none;
+  takes = λ head. rw (last_head-line before here) (follows head);
+  count =
+      let count = h.count in
+      let lines = length-append (spelled_commands before)
+      (filter_map spelled_command (here ∷ [])) in
+      let commands = length-append done (c ∷ []) in
+      ap length (filter_map-append spelled_command before (here ∷ []))
+      ∙ omega (arith, count, lines, commands, spelled);
+}
+
+same_count : (ns : List Name) (inputs : ℕ) (done : List Command) (c : Command)
+    → prepared (c ∷ []) ≡ 0 → take (inputs + prepared done) ns
+    ≡ take (inputs + prepared (done ++ c ∷ [])) ns
+same_count ns inputs done c none =
+    let both = prepared-append done (c ∷ []) in
+    let same : prepared done ≡ prepared (done ++ c ∷ []) = omega (arith, both, none) in
+    rw same refl
+
+pub command_after : (ns : List Name) (inputs : ℕ) (before : Lines) (done : List Command)
+    (c : Command)
+    → IsAfter ns inputs before done → FitsBehind inputs done c
+    → inputs + prepared (done ++ c ∷ []) ≤ length ns
+    → IsAfter ns inputs (before ++ command_line ns c ∷ []) (done ++ c ∷ [])
+unfolding prepared
+command_after ns inputs before done (Prep q) h fits within =
+    let m = inputs + prepared done in
+    let both = prepared-append done (Prep q ∷ []) in
+    let lt : m < length ns = omega (arith, within, both) in
+    let next : inputs + prepared (done ++ Prep q ∷ []) ≡ suc m = omega (arith, both) in
+    let defined : names_at is_defining before (command_line ns (Prep q)) ≡ take (suc m) ns =
+    ap (λ (names : List Name). names ++ name_at ns q ∷ [])
+    (sym (append-nil (flat_map (names_in is_defining) before)) ∙ h.defined)
+    ∙ rw (front_more ns m lt, fits) refl in
+    after_by ns inputs before done (Prep q) (command_line ns (Prep q)) h (rw next defined) refl refl
+    (λ head. refl) refl
+command_after ns inputs before done (Ent q r) h fits within =
+    after_by ns inputs before done (Ent q r) (command_line ns (Ent q r)) h
+    (h.defined ∙ same_count ns inputs done (Ent q r) refl) refl refl (λ head. refl) refl
+command_after ns inputs before done (Meas q a s t) h fits within =
+    after_by ns inputs before done (Meas q a s t) (command_line ns (Meas q a s t)) h
+    (h.defined ∙ same_count ns inputs done (Meas q a s t) refl) refl refl (λ head. refl) refl
+command_after ns inputs before done (FixX q s) h fits within =
+    after_by ns inputs before done (FixX q s) (command_line ns (FixX q s)) h
+    (h.defined ∙ same_count ns inputs done (FixX q s) refl) refl refl (λ head. refl) refl
+command_after ns inputs before done (FixZ q s) h fits within =
+    after_by ns inputs before done (FixZ q s) (command_line ns (FixZ q s)) h
+    (h.defined ∙ same_count ns inputs done (FixZ q s) refl) refl refl (λ head. refl) refl
+
+no_end : (ns : List Name) (c : Command) → is_end (head_in (command_line ns c)) ≡ false
+no_end ns (Prep q) = refl
+no_end ns (Ent q r) = refl
+no_end ns (Meas q a s t) = refl
+no_end ns (FixX q s) = refl
+no_end ns (FixZ q s) = refl
+
+commands_clean : (half : ℕ) (ns : List Name) (inputs : ℕ) (before : Lines) (done cs : List Command)
+    (tail : Lines) → IsAfter ns inputs before done → AreNames ns → IsTrue (is_permitted half)
+    → IsValid inputs (done ++ cs) → inputs + prepared (done ++ cs) ≤ length ns
+    → length (done ++ cs) ≤ 262144 → AllTyped half cs
+    → ((before' : Lines) → IsAfter ns inputs before' (done ++ cs)
+    → Clean pattern_rules before' tail)
+    → Clean pattern_rules before (map (command_line ns) cs ++ tail)
+commands_clean half ns inputs before done [] tail h names permitted valid within few typed rest =
+    rest before (rw (append-nil done) h)
+commands_clean half ns inputs before done (c ∷ cs) tail h names permitted valid within few typed
+    rest =
+    let next : (done ++ c ∷ []) ++ cs ≡ done ++ (c ∷ cs) = append_assoc done (c ∷ []) cs in
+    let fits = valid.at done c cs refl in
+    let whole = prepared-append done (c ∷ cs) in
+    let part = prepared-append (done ++ c ∷ []) cs in
+    let same = ap prepared next in
+    let here : inputs + prepared (done ++ c ∷ []) ≤ length ns = omega (arith, within, part, same) in
+    let long = length-append done (c ∷ cs) in
+    let room : length done < 262144 = omega (arith, few, long) in
+    let there : AreThere ns inputs before done = record {
+      after = h;
+      names = names;
+      within = omega (arith, within, whole);
+      seen = λ k is. measured_there inputs done (c ∷ cs) k valid is;
+    } in
+    more before (command_line ns c) (map (command_line ns) cs ++ tail)
+    (command_clean half ns inputs before done c there permitted here room fits typed.0)
+    (no_end ns c)
+    (commands_clean half ns inputs (before ++ command_line ns c ∷ []) (done ++ c ∷ []) cs tail
+    (command_after ns inputs before done c h fits here) names permitted (rw next valid)
+    (rw next within) (rw next few) typed.1 (λ before' after. rest before' (rw next at after)))
+
+-- the inputs
+role_at : (before : Lines) (h : List ℕ) (list : Words)
+    → role_of (point_of before (h ∷ list))
+    ≡ role_in (head_of h) (point_of before (h ∷ list)).count (point_of before (h ∷ list)).mark
+role_at before h list =
+    rw (
+      ne_eqb (point_of before (h ∷ list)).count 0 (count_some before h list),
+      head_at before
+          (h ∷ list),
+    ) refl
+
+names_here : (test : Option Head → Bool) (before : Lines) (h : List ℕ) (ws : Words)
+    → names_at test before (h ∷ ws)
+    ≡ names_at test before [] ++ (if test (head_of h) then ws else [])
+names_here test before h ws = rw (append-nil (flat_map (names_in test) before)) refl
+
+inputs_clean : (ws ps : List Name) → list_all is_name ps ≡ true → IsDistinct name_eq (ws ++ ps)
+    → length (ws ++ ps) ≤ 256 → CleanWords pattern_rules [] (codes "in" ∷ ws) ps
+inputs_clean ws [] named distinct few = rw (role_at [] (codes "in") ws) refl
+inputs_clean ws (p ∷ ps) named distinct few =
+    let both = and_both (is_name p) (list_all is_name ps) named in
+    let free = distinct_front ws p ps distinct in
+    let long = length-append ws (p ∷ ps) in
+    let room : nat_le 256 (length ws) ≡ false = late (length ws) (omega (arith, long, few)) in
+    let next : (ws ++ p ∷ []) ++ ps ≡ ws ++ (p ∷ ps) = append_assoc ws (p ∷ []) ps in (
+      rw (role_at [] (codes "in") ws, both.0, free, room) refl,
+      inputs_clean (ws ++ p ∷ []) ps both.1 (rw next distinct) (rw next few),
+    )
+  where
+    late : (n : ℕ) → n < 256 → nat_le 256 n ≡ false
+    late n lt = grind (arith, nat_tests)
+
+-- the outputs
+record AreDue (ns : List Name) (done : List Command) (qs : List ℕ) : Type 0 where
+  below : All (λ q. q < length ns) qs
+  once : (q : ℕ) → q < length ns → count_by (nat_eq q) qs ≡ cond (not (measured done q)) 1 0
+
+count_front : (q : ℕ) (done qs : List ℕ) → count_by (nat_eq q) (done ++ q ∷ qs) ≤ 1
+    → is_member done q ≡ false
+count_front q done qs once =
+    let both = sum_by-append (λ s. cond (nat_eq q s) 1 0) done (q ∷ qs) in
+    let here = sum_by-cons (λ s. cond (nat_eq q s) 1 0) q qs in
+    let one : ℕ = 1 in
+    let same : cond (nat_eq q q) 1 0 ≡ one = rw (eq-eqb q q refl) refl in
+    elim (cases_Bool (is_member done q)) [
+      | inl is ↦ let some = member_counts done q is in absurd
+          (omega (arith, both, here, same, once, some))
+      | inr none ↦ none
+    ]
+
+count_last : (q : ℕ) (done qs : List ℕ) → 1 ≤ count_by (nat_eq q) (done ++ q ∷ qs)
+count_last q done qs =
+    let both = sum_by-append (λ s. cond (nat_eq q s) 1 0) done (q ∷ qs) in
+    let here = sum_by-cons (λ s. cond (nat_eq q s) 1 0) q qs in
+    let one : ℕ = 1 in
+    let same : cond (nat_eq q q) 1 0 ≡ one = rw (eq-eqb q q refl) refl in
+    omega (arith, both, here, same)
+
+due_by : (t : Bool) → 1 ≤ cond (not t) 1 0 → t ≡ false
+due_by true some = absurd (omega arith)
+due_by false some = refl
+
+live_one : (t : Bool) → t ≡ false → 1 ≤ cond (not t) 1 0
+live_one true e = absurd (cc e)
+live_one false e = omega arith
+
+few_by : (t : Bool) → cond (not t) 1 0 ≤ 1
+few_by true = omega arith
+few_by false = omega arith
+
+settled_by : (t s : Bool) → (t ≡ false → s ≡ true) → (t || s) ≡ true
+settled_by true s due = refl
+settled_by false s due = due refl
+
+outputs_clean : (ns : List Name) (inputs : ℕ) (before : Lines) (done : List Command)
+    (listed qs : List ℕ) → AreThere ns inputs before done → inputs + prepared done ≡ length ns
+    → AreDue ns done (listed ++ qs)
+    → CleanWords pattern_rules before (codes "out" ∷ map (name_at ns) listed) (map (name_at ns) qs)
+outputs_clean ns inputs before done listed [] h whole due =
+    let list = map (name_at ns) listed in
+    let all : take (inputs + prepared done) ns ≡ ns = rw whole (take_whole ns) in
+    let due' = rw (append-nil listed) at due in
+    let each : list_all (is_settled (measured_in before) list) ns ≡ true =
+    list_all-from_AllPass (is_settled (measured_in before) list) ns (λ q d lt.
+    let here : get_or ns q d ≡ name_at ns q = at_default ns q d lt in
+    let held = measured_held ns inputs before done q h (omega (arith, whole, lt)) in
+    let out = held_written ns listed q h.names.distinct due'.below lt in
+    rw (here, held, out) (settled_by (measured done q) (is_member listed q) (λ live.
+    counts_member listed q (let count = due'.once q lt in
+    let one = live_one (measured done q) live in
+    omega (arith, count, one))))) in
+    rw (
+      role_at before (codes "out") list,
+      names_here is_output before (codes "out") list,
+      names_here is_defining before (codes "out") list,
+      h.after.none,
+      append-nil (names_at is_defining before []),
+      h.after.defined,
+      all,
+      each,
+    ) refl
+  where
+    take_whole : (xs : List Name) → take (length xs) xs ≡ xs
+    take_whole [] = refl
+    take_whole (x ∷ xs) = ap (λ (ys : List Name). x ∷ ys) (take_whole xs)
+
+    at_default : (xs : List Name) (q : ℕ) (d : Name) → q < length xs → get_or xs q d ≡ name_at xs q
+    at_default [] q d lt = absurd (omega arith)
+    at_default (x ∷ xs) zero d lt = refl
+    at_default (x ∷ xs) (suc q) d lt = at_default xs q d (omega arith)
+outputs_clean ns inputs before done listed (q ∷ qs) h whole due =
+    let list = map (name_at ns) listed in
+    let lt : q < length ns = below_by (length ns) (listed ++ q ∷ qs) q due.below
+    (counts_member (listed ++ q ∷ qs) q (count_last q listed qs)) in
+    let count = due.once q lt in
+    let some = count_last q listed qs in
+    let most = few_by (measured done q) in
+    let live = due_by (measured done q) (omega (arith, count, some)) in
+    let front = all_front (length ns) listed (q ∷ qs) due.below in
+    let free = held_written ns listed q h.names.distinct front lt
+    ∙ count_front q listed qs (omega (arith, count, most)) in
+    let known = known_clean ns inputs before done q h (omega (arith, whole, lt)) in
+    let held = measured_held ns inputs before done q h (omega (arith, whole, lt)) ∙ live in
+    let next : (listed ++ q ∷ []) ++ qs ≡ listed ++ (q ∷ qs) = append_assoc listed (q ∷ []) qs in
+    let rest = outputs_clean ns inputs before done (listed ++ q ∷ []) qs h whole (rw next due) in (
+      rw (
+        role_at before (codes "out") list,
+        names_here is_output before (codes "out") list,
+        names_here is_defining before (codes "out") list,
+        h.after.none,
+        append-nil (names_at is_defining before []),
+        known,
+        held,
+        free,
+      ) refl,
+      rw (map-append (name_at ns) listed (q ∷ [])) at rest,
+    )
+
+-- the whole text
+all_named : (m : ℕ) (ns : List Name) → list_all is_name ns ≡ true
+    → list_all is_name (take m ns) ≡ true
+all_named zero ns all = refl
+all_named (suc m) [] all = refl
+all_named (suc m) (n ∷ ns) all =
+    let both = and_both (is_name n) (list_all is_name ns) all in
+    rw (both.0, all_named m ns both.1) refl
+
+pub inputs_after : (ns : List Name) (inputs : ℕ)
+    → IsAfter ns inputs ((codes "in" ∷ take inputs ns) ∷ []) []
+unfolding prepared
+inputs_after ns inputs = record {
+  defined =
+      let none : inputs + 0 ≡ inputs = omega arith in
+      rw none (append-nil (take inputs ns ++ []) ∙ append-nil (take inputs ns));
+  measured = refl;
+  none = refl;
+  takes = λ h. refl;
+  count = refl;
+}
+
+pub pattern_clean : (half : ℕ) (p : Pattern) → IsPattern half p → IsTrue (is_permitted half)
+    → Clean pattern_rules [] (pattern_lines p)
+pattern_clean half p h permitted =
+    let ns = p.names in
+    let valid = h.valid.names in
+    let ins = take p.inputs ns in
+    let out = codes "out" ∷ map (name_at ns) p.outputs in
+    let end = (codes "end" ∷ []) ∷ [] in
+    let qubits = h.valid.qubits in
+    let distinct = front_distinct ins (drop p.inputs ns)
+    (rw (take-append-drop p.inputs ns) valid.distinct) in
+    let few = valid.few in
+    let long = length-take-le p.inputs ns (omega (arith, qubits)) in
+    let begun : IsAfter ns p.inputs ((codes "in" ∷ ins) ∷ []) [] =
+    inputs_after ns p.inputs in
+    more [] (codes "in" ∷ ins) (map (command_line ns) p.commands ++ out ∷ end) (
+      refl,
+      inputs_clean [] ins
+          (all_named p.inputs ns (list_all-from_AllPass is_name ns valid.valid)) distinct
+          (omega (arith, long, few, qubits)),
+    )
+    refl
+    (commands_clean half ns p.inputs ((codes "in" ∷ ins) ∷ []) [] p.commands (out ∷ end) begun valid
+    permitted h.valid.commands (omega (arith, qubits)) h.few h.typed (λ before' after.
+    let there : AreThere ns p.inputs before' p.commands = record {
+      after = after;
+      names = valid;
+      within = omega (arith, qubits);
+      seen = λ k is. measured_there p.inputs p.commands [] k
+          (rw (append-nil p.commands) h.valid.commands) is;
+    } in
+    let takes = after.takes (Some Out) in
+    let follows = last_head-line before' out in
+    more before' out end (
+      rw takes refl,
+      outputs_clean ns p.inputs before' p.commands [] p.outputs there (sym qubits)
+          (record { below = h.valid.outputs.below; once = h.valid.outputs.once }),
+    )
+    refl
+    (last (before' ++ out ∷ []) (codes "end" ∷ []) (rw follows refl, refl) refl)))

@@ -1,0 +1,302 @@
+-- The canonical text of a pattern is read without a fault, as that pattern.
+use Rattle.std.proofs.Common.{◌≡◌, ℕ, zero, suc, ◌+◌, ◌<◌, ◌≤◌, Bool, true, false, All, List, [], ◌∷◌, ◌++◌, length, map, take, codes, refl, sym, ap, ap₂, ◌∙◌, append_assoc, arith, Option, Some, None, IsTrue, if◌then◌else◌}
+use Rattle.std.specs.Fmt.{decimal}
+use Rattle.std.specs.List.{filter_map, flat_map, list_all}
+use Rattle.std.proofs.lemmas.Bool.{eqb-true}
+use Rattle.std.proofs.lemmas.Grind.{flat_map-append}
+use Rattle.std.proofs.lemmas.List.{append-nil, length-take-le, take_all}
+use Rattle.std.proofs.lemmas.List.Elements.{filter_map-append}
+use Rattle.std.proofs.lemmas.List.Folds.{list_all-append}
+use Rattle.std.proofs.lemmas.List.Sums.{list_all-from_AllPass}
+use Rattle.mc_lex.specs.Lines.{end_of}
+use Rattle.mc_write.specs.Named.{name_at}
+use Rattle.mc_angle.proofs.Numerals.{angle-decimal, number-decimal}
+use Rattle.mc_model.specs.Names.{Name, AreNames, is_name}
+use Rattle.mc_model.specs.Pattern.{Command, Prep, Ent, Meas, FixX, FixZ, Pattern}
+use Rattle.mc_model.specs.Signals.{Signal}
+use Rattle.mc_model.specs.Steps.{is_permitted}
+use Rattle.mc_model.specs.Valid.{IsValid, prepared}
+use Rattle.mc_model.proofs.ValidLemmas.{prepared-append}
+use Rattle.mc_pattern.specs.Patterns.{IsPattern}
+use Rattle.mc_pattern.specs.Typed.{IsTyped, AllTyped}
+use Rattle.mc_text.specs.declared.head.Head.{Head}
+use Rattle.mc_text.specs.declared.point.Mark.{Mark}
+use Rattle.mc_text.specs.declared.point.Mark.TheVariants.{S, T}
+use Rattle.mc_text.specs.Points.{mark_of}
+use Rattle.mc_text.specs.Judged.{Words, Lines, section_lines}
+use Rattle.mc_text.specs.Lists.{names_in, names_at}
+use Rattle.mc_text.proofs.Kept.{name_no_mark}
+use Rattle.mc_text.proofs.Clean.{IsRead, written_read}
+use Rattle.mc_text.proofs.Naming.{number-name_at, numbers-name_at, is_name-name_at, name_written, number_written}
+use Rattle.mc_text.proofs.Written.{is_written, is_written_line}
+use Rattle.mc_pattern_text.specs.Roles.{is_defining, is_input, is_output}
+use Rattle.mc_pattern_text.specs.Value.{is_first, is_second, words_under, spelled_m, spelled_command, spelled_commands, command_by, pattern_of}
+use Rattle.mc_pattern_text.specs.Judge.{pattern_rules}
+use Rattle.mc_pattern_text.specs.Written.{IsNamed, AreNamed}
+use Rattle.mc_pattern_text.specs.Canonical.{marked, command_line, pattern_lines, pattern_text, behind_header}
+use Rattle.mc_pattern_text.proofs.NamedCommands.{pattern_named}
+use Rattle.mc_pattern_text.proofs.NamedSignals.{names_written, signal_back}
+use Rattle.mc_pattern_text.proofs.CleanCommands.{IsAfter}
+use Rattle.mc_pattern_text.proofs.CleanLines.{names_unmarked, under-append, two_under, decimal_no_mark}
+use Rattle.mc_pattern_text.proofs.CleanText.{command_after, inputs_after, pattern_clean}
+use Rattle.mc_pattern_text.proofs.Parts.{and_both}
+
+-- the canonical lines can be written
+front_written : (m : ℕ) (ns : List Name) → list_all is_name ns ≡ true
+    → list_all is_written (take m ns) ≡ true
+front_written zero ns all = refl
+front_written (suc m) [] all = refl
+front_written (suc m) (n ∷ ns) all =
+    let both = and_both (is_name n) (list_all is_name ns) all in
+    rw (name_written n both.0, front_written m ns both.1) refl
+
+marked_written : (mark : List ℕ) (ns : List Name) (qs : List ℕ) → is_written mark ≡ true
+    → AreNames ns
+    → All (λ q. q < length ns) qs → list_all is_written (marked mark ns qs) ≡ true
+marked_written mark ns [] written valid below = refl
+marked_written mark ns (q ∷ qs) written valid below =
+    let names = names_written ns (q ∷ qs) valid below in
+    rw (written, names) refl
+
+name_of : (ns : List Name) (q : ℕ) → AreNames ns → q < length ns → is_written (name_at ns q) ≡ true
+name_of ns q valid lt = name_written (name_at ns q) (is_name-name_at ns q valid lt)
+
+command_written : (half : ℕ) (ns : List Name) (c : Command) → AreNames ns
+    → IsTrue (is_permitted half)
+    → IsNamed (length ns) c → IsTyped half c → is_written_line (command_line ns c) ≡ true
+command_written half ns (Prep q) valid permitted named typed =
+    let first = name_of ns q valid named in rw first refl
+command_written half ns (Ent q r) valid permitted named typed =
+    let first = name_of ns q valid named.0 in
+    let second = name_of ns r valid named.1 in
+    rw (first, second) refl
+command_written half ns (Meas q a s t) valid permitted named typed =
+    let first = name_of ns q valid named.0 in
+    let four : half ≡ 4 = eqb-true half 4 permitted in
+    let turn = typed.0 in
+    let number = number_written (decimal a) (number-decimal a (omega arith)).0 in
+    let firsts = marked_written (codes "s:") ns s.members refl valid named.1 in
+    let seconds = marked_written (codes "t:") ns t.members refl valid named.2 in
+    let both = list_all-append is_written (marked (codes "s:") ns s.members)
+    (marked (codes "t:") ns t.members) in
+    rw (first, number, both, firsts, seconds) refl
+command_written half ns (FixX q s) valid permitted named typed =
+    let first = name_of ns q valid named.0 in
+    let members = names_written ns s.members valid named.1 in
+    rw (first, members) refl
+command_written half ns (FixZ q s) valid permitted named typed =
+    let first = name_of ns q valid named.0 in
+    let members = names_written ns s.members valid named.1 in
+    rw (first, members) refl
+
+commands_written : (half : ℕ) (ns : List Name) (cs : List Command) → AreNames ns
+    → IsTrue (is_permitted half) → AreNamed (length ns) cs → AllTyped half cs
+    → list_all is_written_line (map (command_line ns) cs) ≡ true
+commands_written half ns [] valid permitted named typed = refl
+commands_written half ns (c ∷ cs) valid permitted named typed =
+    let first = command_written half ns c valid permitted named.0 typed.0 in
+    let rest = commands_written half ns cs valid permitted named.1 typed.1 in
+    rw (first, rest) refl
+
+pattern_written : (half : ℕ) (p : Pattern) → IsPattern half p → IsTrue (is_permitted half)
+    → list_all is_written_line ((codes "pattern" ∷ codes "1" ∷ []) ∷ pattern_lines p) ≡ true
+pattern_written half p h permitted =
+    let valid = h.valid.names in
+    let inputs = front_written p.inputs p.names
+    (list_all-from_AllPass is_name p.names valid.valid) in
+    let commands = commands_written half p.names p.commands valid permitted
+    (pattern_named p h.valid) h.typed in
+    let outputs = names_written p.names p.outputs valid h.valid.outputs.below in
+    let out = codes "out" ∷ map (name_at p.names) p.outputs in
+    let end = (codes "end" ∷ []) ∷ [] in
+    rw (
+      inputs,
+      list_all-append is_written_line (map (command_line p.names) p.commands) (out ∷ end),
+      commands,
+      outputs,
+    ) refl
+
+-- the commands that their lines spell
+if_both : (t : Bool) → let none : Words = [] in none ≡ (if t then none else none)
+if_both true = refl
+if_both false = refl
+
+s_under : (test : Option Mark → Bool) (mark : Option Mark) (ns : List Name) (qs : List ℕ)
+    → AreNames ns
+    → All (λ q. q < length ns) qs
+    → words_under test mark (marked (codes "s:") ns qs)
+    ≡ (if test (Some S) then map (name_at ns) qs else [])
+s_under test mark ns [] valid below = if_both (test (Some S))
+s_under test mark ns (q ∷ qs) valid below = (names_unmarked ns (q ∷ qs) valid below (Some S)).1 test
+
+t_under : (test : Option Mark → Bool) (mark : Option Mark) (ns : List Name) (qs : List ℕ)
+    → AreNames ns
+    → All (λ q. q < length ns) qs
+    → words_under test mark (marked (codes "t:") ns qs)
+    ≡ (if test (Some T) then map (name_at ns) qs else [])
+t_under test mark ns [] valid below = if_both (test (Some T))
+t_under test mark ns (q ∷ qs) valid below = (names_unmarked ns (q ∷ qs) valid below (Some T)).1 test
+
+both_under : (test : Option Mark → Bool) (ns : List Name) (w a : List ℕ) (qs rs : List ℕ)
+    → mark_of w ≡ None → mark_of a ≡ None → AreNames ns → All (λ q. q < length ns) qs
+    → All (λ q. q < length ns) rs → test None ≡ false
+    → words_under test None (w ∷ a ∷ (marked (codes "s:") ns qs ++ marked (codes "t:") ns rs))
+    ≡ (if test (Some S) then map (name_at ns) qs else [])
+    ++ (if test (Some T) then map (name_at ns) rs else [])
+both_under test ns w a qs rs no_w no_a valid first second none =
+    let firsts = marked (codes "s:") ns qs in
+    let seconds = marked (codes "t:") ns rs in
+    two_under [] w a no_w no_a test (firsts ++ seconds) none
+    ∙ under-append test None firsts seconds
+    ∙ ap₂ (λ (xs ys : Words). xs ++ ys) (s_under test None ns qs valid first)
+    (t_under test _ ns rs valid second)
+
+meas_back : (half : ℕ) (ns : List Name) (q a : ℕ) (s t : Signal) → AreNames ns
+    → IsTrue (is_permitted half) → IsNamed (length ns) (Meas q a s t) → IsTyped half (Meas q a s t)
+    → (let words = name_at ns q ∷ decimal a
+    ∷ (marked (codes "s:") ns s.members ++ marked (codes "t:") ns t.members) in
+    command_by half ns (spelled_m (name_at ns q) (decimal a) (words_under is_first None words)
+    (words_under is_second None words)))
+    ≡ Meas q a s t
+meas_back half ns q a s t valid permitted named typed =
+    let w = name_at ns q in
+    let no_w = name_no_mark w (is_name-name_at ns q valid named.0) in
+    let no_a = decimal_no_mark half a permitted typed.0 in
+    let first = both_under is_first ns w (decimal a) s.members t.members no_w no_a valid named.1
+    named.2 refl
+    ∙ append-nil (map (name_at ns) s.members) in
+    let second = both_under is_second ns w (decimal a) s.members t.members no_w no_a valid named.1
+    named.2
+    refl in
+    let number = number-name_at ns q valid.distinct named.0 in
+    let angle = (angle-decimal half a permitted typed.0).1 in
+    let s_back = signal_back ns s valid.distinct typed.1 named.1 in
+    let t_back = signal_back ns t valid.distinct typed.2 named.2 in
+    ap₂ (λ (xs ys : Words). command_by half ns (spelled_m w (decimal a) xs ys)) first second
+    ∙ rw (number, angle, s_back, t_back) refl
+
+commands_back : (half : ℕ) (ns : List Name) (cs : List Command) → AreNames ns
+    → IsTrue (is_permitted half) → AreNamed (length ns) cs → AllTyped half cs
+    → map (command_by half ns) (filter_map spelled_command (map (command_line ns) cs)) ≡ cs
+commands_back half ns [] valid permitted named typed = refl
+commands_back half ns (Prep q ∷ cs) valid permitted named typed =
+    let number = number-name_at ns q valid.distinct named.0 in
+    ap₂ (λ (c : Command) (ds : List Command). c ∷ ds) (ap Prep number)
+    (commands_back half ns cs valid permitted named.1 typed.1)
+commands_back half ns (Ent q r ∷ cs) valid permitted named typed =
+    let first = number-name_at ns q valid.distinct named.0.0 in
+    let second = number-name_at ns r valid.distinct named.0.1 in
+    ap₂ (λ (c : Command) (ds : List Command). c ∷ ds) (ap₂ Ent first second)
+    (commands_back half ns cs valid permitted named.1 typed.1)
+commands_back half ns (Meas q a s t ∷ cs) valid permitted named typed =
+    ap₂ (λ (c : Command) (ds : List Command). c ∷ ds)
+    (meas_back half ns q a s t valid permitted named.0 typed.0)
+    (commands_back half ns cs valid permitted named.1 typed.1)
+commands_back half ns (FixX q s ∷ cs) valid permitted named typed =
+    let number = number-name_at ns q valid.distinct named.0.0 in
+    let signal = signal_back ns s valid.distinct typed.0 named.0.1 in
+    ap₂ (λ (c : Command) (ds : List Command). c ∷ ds) (ap₂ FixX number signal)
+    (commands_back half ns cs valid permitted named.1 typed.1)
+commands_back half ns (FixZ q s ∷ cs) valid permitted named typed =
+    let number = number-name_at ns q valid.distinct named.0.0 in
+    let signal = signal_back ns s valid.distinct typed.0 named.0.1 in
+    ap₂ (λ (c : Command) (ds : List Command). c ∷ ds) (ap₂ FixZ number signal)
+    (commands_back half ns cs valid permitted named.1 typed.1)
+
+-- the names that the lines define
+commands_after : (ns : List Name) (inputs : ℕ) (before : Lines) (done cs : List Command)
+    → IsAfter ns inputs before done → IsValid inputs (done ++ cs)
+    → inputs + prepared (done ++ cs) ≤ length ns
+    → IsAfter ns inputs (before ++ map (command_line ns) cs) (done ++ cs)
+commands_after ns inputs before done [] h valid within =
+    rw (append-nil before, append-nil done) h
+commands_after ns inputs before done (c ∷ cs) h valid within =
+    let next : (done ++ c ∷ []) ++ cs ≡ done ++ (c ∷ cs) = append_assoc done (c ∷ []) cs in
+    let lines : (before ++ command_line ns c ∷ []) ++ map (command_line ns) cs
+    ≡ before ++ (command_line ns c ∷ map (command_line ns) cs) =
+    append_assoc before (command_line ns c ∷ []) (map (command_line ns) cs) in
+    let part = prepared-append (done ++ c ∷ []) cs in
+    let same = ap prepared next in
+    let later = commands_after ns inputs (before ++ command_line ns c ∷ []) (done ++ c ∷ []) cs
+    (command_after ns inputs before done c h (valid.at done c cs refl)
+    (omega (arith, within, part, same)))
+    (rw next valid) (rw next within) in
+    rw (lines, next) at later
+
+no_inputs : (ns : List Name) (cs : List Command)
+    → flat_map (names_in is_input) (map (command_line ns) cs) ≡ []
+no_inputs ns [] = refl
+no_inputs ns (Prep q ∷ cs) = no_inputs ns cs
+no_inputs ns (Ent q r ∷ cs) = no_inputs ns cs
+no_inputs ns (Meas q a s t ∷ cs) = no_inputs ns cs
+no_inputs ns (FixX q s ∷ cs) = no_inputs ns cs
+no_inputs ns (FixZ q s ∷ cs) = no_inputs ns cs
+
+names_of : (test : Option Head → Bool) (p : Pattern)
+    → names_at test (pattern_lines p) []
+    ≡ names_at test ((codes "in" ∷ take p.inputs p.names) ∷ map (command_line p.names) p.commands)
+    []
+    ++ (names_in test (codes "out" ∷ map (name_at p.names) p.outputs)
+    ++ names_in test (codes "end" ∷ []))
+names_of test p =
+    let begun = (codes "in" ∷ take p.inputs p.names) ∷ map (command_line p.names) p.commands in
+    let out = codes "out" ∷ map (name_at p.names) p.outputs in
+    let end = (codes "end" ∷ []) ∷ [] in
+    append-nil (flat_map (names_in test) (pattern_lines p))
+    ∙ flat_map-append (names_in test) begun (out ∷ end)
+    ∙ ap₂ (λ (xs ys : Words). xs ++ (names_in test out ++ ys))
+    (sym (append-nil (flat_map (names_in test) begun)))
+    (append-nil (names_in test (codes "end" ∷ [])))
+
+pattern_back : (half : ℕ) (p : Pattern) → IsPattern half p → IsTrue (is_permitted half)
+    → pattern_of half (pattern_lines p) ≡ p
+pattern_back half p h permitted =
+    let ns = p.names in
+    let valid = h.valid.names in
+    let qubits = h.valid.qubits in
+    let ins = take p.inputs ns in
+    let begun = (codes "in" ∷ ins) ∷ map (command_line ns) p.commands in
+    let after = commands_after ns p.inputs ((codes "in" ∷ ins) ∷ []) [] p.commands
+    (inputs_after ns p.inputs) h.valid.commands (omega (arith, qubits)) in
+    let whole : take (p.inputs + prepared p.commands) ns ≡ ns =
+    take_all (p.inputs + prepared p.commands) ns (omega (arith, qubits)) in
+    let defined : names_at is_defining (pattern_lines p) [] ≡ ns =
+    names_of is_defining p ∙ append-nil (names_at is_defining begun []) ∙ after.defined ∙ whole in
+    let inputs : names_at is_input (pattern_lines p) [] ≡ ins =
+    names_of is_input p ∙ append-nil (names_at is_input begun [])
+    ∙ append-nil (flat_map (names_in is_input) begun)
+    ∙ ap (λ (xs : Words). ins ++ xs) (no_inputs ns p.commands) ∙ append-nil ins in
+    let listed : names_at is_output (pattern_lines p) [] ≡ map (name_at ns) p.outputs =
+    names_of is_output p
+    ∙ ap (λ (xs : Words). xs ++ (map (name_at ns) p.outputs ++ [])) after.none
+    ∙ append-nil (map (name_at ns) p.outputs) in
+    let few : length ins ≡ p.inputs = length-take-le p.inputs ns (omega (arith, qubits)) in
+    let are = numbers-name_at ns p.outputs valid.distinct h.valid.outputs.below in
+    let spelled : spelled_commands (pattern_lines p)
+    ≡ filter_map spelled_command (map (command_line ns) p.commands) =
+    filter_map-append spelled_command (map (command_line ns) p.commands)
+    ((codes "out" ∷ map (name_at ns) p.outputs) ∷ (codes "end" ∷ []) ∷ [])
+    ∙ append-nil (filter_map spelled_command (map (command_line ns) p.commands)) in
+    let commands = commands_back half ns p.commands valid permitted (pattern_named p h.valid)
+    h.typed in
+    rw (defined, inputs, few, listed, ← are.numbers_are, spelled, commands) refl
+
+pub text_read : (half : ℕ) (p : Pattern) → IsPattern half p → IsTrue (is_permitted half)
+    → IsRead pattern_rules [] (pattern_lines p) (behind_header (pattern_text p))
+    (end_of (pattern_text p))
+text_read half p h permitted =
+    written_read pattern_rules (codes "pattern" ∷ codes "1" ∷ []) (pattern_lines p)
+    (end_of (pattern_text p)) (pattern_written half p h permitted)
+    (pattern_clean half p h permitted)
+
+pub text_back : (half : ℕ) (p : Pattern) → IsPattern half p → IsTrue (is_permitted half)
+    → pattern_of half (section_lines (behind_header (pattern_text p))) ≡ p
+text_back half p h permitted =
+    ap (pattern_of half) (text_read half p h permitted).same ∙ pattern_back half p h permitted
+
+pub same_text : (half : ℕ) (p q : Pattern) → IsPattern half p → IsPattern half q
+    → IsTrue (is_permitted half) → pattern_text p ≡ pattern_text q → p ≡ q
+same_text half p q h k permitted e =
+    sym (text_back half p h permitted)
+    ∙ ap (λ text. pattern_of half (section_lines (behind_header text))) e
+    ∙ text_back half q k permitted

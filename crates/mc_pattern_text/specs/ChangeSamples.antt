@@ -1,0 +1,84 @@
+-- The definitions, computed on small texts behind a pattern that measures `c`, `a` and `b`: each
+-- fault that a change can meet, with its place.
+use Rattle.std.specs.Prelude.{◌≡◌, ℕ, List, [], ◌∷◌, false, codes, Option, None, Some, refl}
+use Rattle.mc_lex.specs.Lines.{lines_of, end_of}
+use Rattle.mc_model.specs.Shift.{ChangeRow}
+use Rattle.mc_text.specs.declared.fault.Fault.{Fault}
+use Rattle.mc_text.specs.declared.fault.Fault.TheVariants.{StrayByte, NotFixed, LineEnds, Surplus, NotName, NotDefined, NotMeasured, ListedTwice, TextEnds, OtherRow}
+use Rattle.mc_text.specs.Judged.{Judgement, fault, Place, first_in_section, section_lines}
+use Rattle.mc_pattern_text.specs.ChangeJudge.{rules_by}
+use Rattle.mc_pattern_text.specs.ChangeValue.{rows_of}
+
+abbrev pub names : List (List ℕ)
+names = codes "a" ∷ codes "b" ∷ codes "c" ∷ codes "d" ∷ []
+
+-- the first fault of a section that is the whole text
+abbrev pub first : List ℕ → Option (Judgement × Place)
+first text = first_in_section (rules_by names (2 ∷ 0 ∷ 1 ∷ [])) [] (lines_of text) (end_of text)
+
+abbrev pub Breaks : List ℕ → Fault → ℕ → ℕ → Type 0
+Breaks text broken line column = first text ≡ Some (fault broken, (line, column))
+
+abbrev pub row : ℕ → List ℕ → ChangeRow
+row q qs = record { qubit = q; signal = record { members = qs; constant = false } }
+
+pub whole : first (codes "o c\no a c\no b c a\nend\nmore") ≡ None
+whole = refl
+
+pub spells : rows_of names (section_lines (lines_of (codes "o c\n\to a # c\no b  c a\nend")))
+    ≡ row 2 [] ∷ row 0 [] ∷ row 1 (0 ∷ 2 ∷ []) ∷ []
+spells = refl
+
+pub without_rows : first_in_section (rules_by names []) [] (lines_of (codes "end")) (1, 4) ≡ None
+without_rows = refl
+
+pub stray_byte : Breaks (codes "o c \u{7f}\n") StrayByte 1 5
+stray_byte = refl
+
+pub word_of_another_kind : Breaks (codes "o c\nout\nend\n") NotFixed 2 1
+word_of_another_kind = refl
+
+pub lacks_qubit : Breaks (codes "o c\n o\nend\n") LineEnds 2 3
+lacks_qubit = refl
+
+pub behind_end : Breaks (codes "o c\no a\no b\nend o\n") Surplus 4 5
+behind_end = refl
+
+pub no_name : Breaks (codes "o c:\n") NotName 1 3
+no_name = refl
+
+pub no_name_among_members : Breaks (codes "o c\no a :\n") NotName 2 5
+no_name_among_members = refl
+
+pub undefined_qubit : Breaks (codes "o e\n") NotDefined 1 3
+undefined_qubit = refl
+
+pub undefined_member : Breaks (codes "o c\no a e\n") NotDefined 2 5
+undefined_member = refl
+
+pub member_twice : Breaks (codes "o c\no a c c\n") ListedTwice 2 7
+member_twice = refl
+
+pub measured_behind : Breaks (codes "o c\no a b\n") NotMeasured 2 5
+measured_behind = refl
+
+pub its_own_member : Breaks (codes "o c c\n") NotMeasured 1 5
+its_own_member = refl
+
+pub output_as_member : Breaks (codes "o c\no a d\n") NotMeasured 2 5
+output_as_member = refl
+
+pub out_of_order : Breaks (codes "o a\no c\n") OtherRow 1 3
+out_of_order = refl
+
+pub row_twice : Breaks (codes "o c\no c\n") OtherRow 2 3
+row_twice = refl
+
+pub row_of_an_output : Breaks (codes "o c\no a\no b\no d\n") OtherRow 4 3
+row_of_an_output = refl
+
+pub rows_lack : Breaks (codes "o c\no a\nend more\n") OtherRow 3 1
+rows_lack = refl
+
+pub cut : Breaks (codes "o c\no a\no b\n") TextEnds 4 1
+cut = refl

@@ -1,0 +1,265 @@
+//! What the words of a command do.
+
+ghost use Rattle.std.specs.Prelude.{◌≡◌, ℕ, ◌*◌, ◌<◌, List, Option, [], ◌∷◌, false, true, OnOk, IfOk, IfErr, IsTrue, Some, None};
+ghost use Rattle.std.specs.Option.{option_map};
+ghost use Rattle.mc_angle.specs.Angle.{angle_of};
+ghost use Rattle.mc_model.specs.Steps.{is_permitted};
+ghost use Rattle.mc_model.specs.Numbers.{is_member};
+ghost use Rattle.mc_model.specs.Names.{is_name, place_of};
+ghost use Rattle.mc_signal.specs.Outcomes.{bits_of};
+ghost use Rattle.mc_pattern.specs.Commands.{plain_command};
+ghost use Rattle.mc_text.specs.Rules.{angle_word};
+ghost use Rattle.mc_text.specs.Stops.{IsStop};
+ghost use Rattle.mc_text.specs.declared.head.Head.{Head as PlainHead};
+ghost use Rattle.mc_pattern_text.specs.Roles.{has_operand, role_of, role_behind};
+ghost use Rattle.mc_pattern_text.specs.Judge.{judge_by, still_name, second_name, member_name, opening_word, first_member_word};
+ghost use Rattle.mc_pattern_text.specs.Kept.{AreMarked, IsOperand, IsSecond, Joins, Stands, Takes, TakesBehind, set_behind, known_by, command_with, AreTyped};
+
+use crate::reader::Operands;
+use mc_angle::Angle;
+use mc_names::Names;
+use mc_pattern::Command;
+use mc_signal::{QSet, Signal};
+use mc_text::{Fault, Head, Mark, Point, Stop, angle, known};
+use std::alloc::Global;
+
+impl<const H: usize> Operands<H> {
+    /// Before the first word.
+    pub(crate) fn new(alloc: Global) -> Operands<H>
+        requires { IsTrue (is_permitted H) }
+        ensures s { result.s ≡ [] }
+        ensures t { result.t ≡ [] }
+    {
+        Operands {
+            first: 0,
+            second: 0,
+            angle: Angle::of(0),
+            s: QSet::new(alloc),
+            t: QSet::new(alloc),
+        }
+    }
+
+    /// The command of a line with this record word.
+    pub(crate) fn command(self, head: Option<Head>) -> Option<Command<H>>
+        ensures command { option_map plain_command result ≡ command_with head self.entry }
+        ensures typed { AreTyped self.entry }
+    {
+        // the proof needs that the angle is less than a turn, and that sets are in order
+        let _steps = self.angle.steps();
+        let _members = (self.s.len(), self.t.len());
+        match head {
+            Some(Head::N) => Some(Command::Prep(self.first)),
+            Some(Head::E) => Some(Command::Ent(self.first, self.second)),
+            Some(Head::M) => Some(Command::Meas {
+                q: self.first,
+                angle: self.angle,
+                s: Signal::of(self.s),
+                t: Signal::of(self.t),
+            }),
+            Some(Head::X) => Some(Command::FixX {
+                q: self.first,
+                s: Signal::of(self.s),
+            }),
+            Some(Head::Z) => Some(Command::FixZ {
+                q: self.first,
+                s: Signal::of(self.s),
+            }),
+            _ => None,
+        }
+    }
+}
+
+/// Whether a mark stands at a number.
+pub(crate) fn is_marked(marks: &[bool], q: u16) -> bool
+    ensures { result ≡ bits_of marks.now q }
+{
+    marks.get(q as usize).copied().unwrap_or(false)
+}
+
+/// The number of a qubit that was not measured.
+pub(crate) fn still(names: &Names, marks: &[bool], word: &[u8]) -> Result<u16, Stop>
+    ensures clean { OnOk result ((measured : List (List ℕ))
+        → AreMarked names.now measured (bits_of marks.now)
+        → still_name names.now measured word.now ≡ None) }
+    ensures name { OnOk result (is_name word.now ≡ true) }
+    ensures place { IfOk result (λ q. place_of names.now word.now ≡ Some q) }
+    ensures live { IfOk result (λ q. bits_of marks.now q ≡ false) }
+    ensures err { IfErr result (λ stop. (measured : List (List ℕ))
+        → AreMarked names.now measured (bits_of marks.now)
+        → IsStop stop (still_name names.now measured word.now)) }
+{
+    match known(names, word) {
+        Ok(number) => {
+            if is_marked(marks, number) {
+                return Err(Stop::Fault(Fault::Measured));
+            }
+            Ok(number)
+        }
+        Err(stop) => Err(stop),
+    }
+}
+
+/// Takes the first operand of a command.
+fn take_first(names: &Names, marks: &[bool], first: &mut u16, word: &[u8]) -> Result<(), Stop>
+    ensures clean { OnOk result ((measured : List (List ℕ))
+        → AreMarked names.now measured (bits_of marks.now)
+        → still_name names.now measured word.now ≡ None) }
+    ensures name { OnOk result (is_name word.now ≡ true) }
+    ensures place { OnOk result (place_of names.now word.now ≡ Some first.new) }
+    ensures live { OnOk result (bits_of marks.now first.new ≡ false) }
+    ensures err { IfErr result (λ stop. (measured : List (List ℕ))
+        → AreMarked names.now measured (bits_of marks.now)
+        → IsStop stop (still_name names.now measured word.now)) }
+{
+    match still(names, marks, word) {
+        Ok(number) => {
+            *first = number;
+            Ok(())
+        }
+        Err(stop) => Err(stop),
+    }
+}
+
+/// Takes the second operand of a command, whose first has a number.
+fn take_second(
+    names: &Names,
+    marks: &[bool],
+    first: u16,
+    second: &mut u16,
+    word: &[u8],
+) -> Result<(), Stop>
+    ensures clean { OnOk result ((measured : List (List ℕ)) (name : Option (List ℕ))
+        → AreMarked names.now measured (bits_of marks.now) → IsOperand names.now name first
+        → second_name names.now measured name word.now ≡ None) }
+    ensures is { OnOk result (IsSecond names.now (bits_of marks.now) first second.new word.now) }
+    ensures err { IfErr result (λ stop. (measured : List (List ℕ)) (name : Option (List ℕ))
+        → AreMarked names.now measured (bits_of marks.now) → IsOperand names.now name first
+        → IsStop stop (second_name names.now measured name word.now)) }
+{
+    match still(names, marks, word) {
+        Ok(number) => {
+            if number == first {
+                return Err(Stop::Fault(Fault::SameOperand));
+            }
+            *second = number;
+            Ok(())
+        }
+        Err(stop) => Err(stop),
+    }
+}
+
+/// Takes the angle of a measurement.
+fn take_angle<const H: usize>(kept: &mut Angle<H>, word: &[u8]) -> Result<(), Stop>
+    ensures clean { OnOk result (angle_word word.now ≡ None) }
+    ensures angle { OnOk result (kept.new ≡ angle_of H word.now) }
+    ensures err { IfErr result (λ stop. IsStop stop (angle_word word.now)) }
+{
+    // the proof needs that the number of steps is permitted
+    let _steps = kept.steps();
+    match angle(word) {
+        Ok(angle) => {
+            *kept = angle;
+            Ok(())
+        }
+        Err(stop) => Err(stop),
+    }
+}
+
+/// Takes a member of a signal.
+fn take_member(names: &Names, marks: &[bool], members: &mut QSet, word: &[u8]) -> Result<(), Stop>
+    ensures clean { OnOk result ((measured list : List (List ℕ))
+        → AreMarked names.now measured (bits_of marks.now)
+        → AreMarked names.now list (is_member members.old)
+        → member_name names.now measured list word.now ≡ None) }
+    ensures name { OnOk result (is_name word.now ≡ true) }
+    ensures joins { OnOk result (Joins names.now (bits_of marks.now) members.old members.new (word.now ∷ [])) }
+    ensures err { IfErr result (λ stop. (measured list : List (List ℕ))
+        → AreMarked names.now measured (bits_of marks.now)
+        → AreMarked names.now list (is_member members.old)
+        → IsStop stop (member_name names.now measured list word.now)) }
+{
+    // the proof needs that there are at most 256 names
+    let _count = names.len();
+    let number = match known(names, word) {
+        Ok(number) => number,
+        Err(stop) => return Err(stop),
+    };
+    if members.has(number) {
+        return Err(Stop::Fault(Fault::ListedTwice));
+    }
+    if !is_marked(marks, number) {
+        return Err(Stop::Fault(Fault::NotMeasured));
+    }
+    match members.toggle(number) {
+        Ok(()) => Ok(()),
+        Err(_) => Err(Stop::Memory),
+    }
+}
+
+/// Judges a word that begins a signal.
+fn take_opening(word: &[u8]) -> Result<(), Stop>
+    ensures clean { OnOk result (opening_word word.now ≡ None) }
+    ensures err { IfErr result (λ stop. IsStop stop (opening_word word.now)) }
+{
+    match Mark::read(word) {
+        Some(Mark::S | Mark::T) => Ok(()),
+        _ => Err(Stop::Fault(Fault::NotFixed)),
+    }
+}
+
+/// Takes a word behind the angle of a measurement.
+fn take_behind<const H: usize>(
+    names: &Names,
+    marks: &[bool],
+    operands: &mut Operands<H>,
+    mark: Option<Mark>,
+    word: &[u8],
+) -> Result<(), Stop>
+    ensures ok { OnOk result (TakesBehind names.now (bits_of marks.now) operands.old operands.new mark word.now) }
+    ensures err { IfErr result (λ stop. (measured listed members : List (List ℕ)) (first : Option (List ℕ))
+        (commands : ℕ) (last : Option PlainHead) → AreMarked names.now measured (bits_of marks.now)
+        → AreMarked names.now members (is_member (set_behind operands.old mark))
+        → IsStop stop (judge_by (known_by names.now measured listed members first commands) last
+        (role_behind mark) word.now)) }
+{
+    match mark {
+        None => take_opening(word),
+        Some(Mark::S) => {
+            if Mark::read(word) == Some(Mark::T) {
+                return Ok(());
+            }
+            take_member(names, marks, &mut operands.s, word)
+        }
+        Some(Mark::T) => take_member(names, marks, &mut operands.t, word),
+        Some(Mark::Colon) => Err(Stop::Fault(Fault::Surplus)),
+    }
+}
+
+/// Judges a word of a command that has operands, and takes it.
+pub(crate) fn take_word<const H: usize>(
+    names: &Names,
+    marks: &[bool],
+    operands: &mut Operands<H>,
+    point: Point,
+    word: &[u8],
+) -> Result<(), Stop>
+    requires later { point.count ≡ 0 → ⊥ }
+    requires command { has_operand point.head ≡ true }
+    ensures ok { OnOk result (Takes names.now (bits_of marks.now) operands.old operands.new point word.now) }
+    ensures err { IfErr result (λ stop. (measured listed members : List (List ℕ)) (first : Option (List ℕ))
+        (commands : ℕ) → Stands names.now (bits_of marks.now) operands.old point measured members first
+        → IsStop stop (judge_by (known_by names.now measured listed members first commands)
+        point.last (role_of point) word.now)) }
+{
+    match (point.head, point.count) {
+        (_, 1) => take_first(names, marks, &mut operands.first, word),
+        (Some(Head::E), 2) => {
+            take_second(names, marks, operands.first, &mut operands.second, word)
+        }
+        (Some(Head::M), 2) => take_angle(&mut operands.angle, word),
+        (Some(Head::M), _) => take_behind(names, marks, operands, point.mark, word),
+        (Some(Head::X), _) => take_member(names, marks, &mut operands.s, word),
+        (Some(Head::Z), _) => take_member(names, marks, &mut operands.s, word),
+        _ => Err(Stop::Fault(Fault::Surplus)),
+    }
+}

@@ -1,0 +1,15 @@
+pub mod Digits
+pub mod Places
+pub mod Turns
+pub mod Steps
+pub mod Vectors
+pub mod Starts
+pub mod There
+pub mod GatesLeft
+pub mod Outputs
+pub mod Joined
+pub mod Filling
+pub mod Counting
+pub mod Ignoring
+pub mod CommandsLeft
+pub mod Order

@@ -1,0 +1,7 @@
+pub mod Settings
+pub mod Exact
+pub mod Sources
+pub mod Gates
+pub mod Limits
+pub mod Tables
+pub mod Reports
