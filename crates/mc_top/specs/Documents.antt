@@ -1,5 +1,5 @@
 -- The first fault or limit of a document, and the document that a text spells.
-use Rattle.std.specs.Prelude.{ℕ, List, [], ◌∷◌, Bool, if◌then◌else◌, Option, None, Some, ⊤}
+use Rattle.std.specs.Prelude.{◌≡◌, true, ℕ, List, [], ◌∷◌, Bool, if◌then◌else◌, Option, None, Some, ⊤}
 use Rattle.mc_lex.specs.declared.kind.Kind.{Kind}
 use Rattle.mc_lex.specs.declared.kind.Kind.TheVariants.{Circuit, Pattern, Graph, Change}
 use Rattle.mc_lex.specs.Kinds.{kind_of}
@@ -108,6 +108,12 @@ spelled_lines half (line ∷ lines) = spelled_in_kind half (kind_in (words_of li
 -- the document that a text without faults spells
 abbrev pub spelled : ℕ → List ℕ → Option Spelled
 spelled half text = spelled_lines half (lines_of text)
+
+-- a document is spelled, and it is of a kind that is taken
+abbrev pub Spells : Takes → Option Spelled → Type 0
+Spells takes None = ⊥
+Spells takes (Some (circuit c)) = takes.circuit ≡ true
+Spells takes (Some (pattern p change)) = takes.pattern ≡ true
 
 -- the place of the first word of a text
 abbrev pub place_of_item : Item → Place

@@ -105,7 +105,7 @@ due_document shift place d = due_from d (λ p. shifted_text (standard_form p))
 due_document run place d = due_run d
 due_document (run_branch outcomes) place d = due_branch place outcomes d
 
--- a text without faults spells a document
+-- a text without faults spells a document of a kind that is taken: `clean_texts_spell_documents`
 abbrev pub due_spelled : Asked → Place → Option Spelled → Due
 due_spelled asked place None = answer []
 due_spelled asked place (Some d) = due_document asked place d

@@ -2,6 +2,7 @@
 #![tactic(auto)]
 
 mod document;
+mod laws;
 mod note;
 mod passes;
 mod run;
@@ -16,6 +17,7 @@ mod top;
 mod work;
 
 pub use document::{Document, read_document};
+pub use laws::clean_texts_spell_documents;
 pub use status::Status;
 pub use takes::Takes;
 pub use task::Task;

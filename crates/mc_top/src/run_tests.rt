@@ -1,5 +1,5 @@
 use super::*;
-use crate::tests::{WILD, WILD_STANDARD, check};
+use crate::tests::{WILD, WILD_STANDARD, check, row_of_gates};
 use mc_cyclo::{Cyclo, phase_between};
 use mc_pattern::Pattern;
 use mc_run::run_branch;
@@ -98,4 +98,23 @@ fn exchanged_corrections_differ_by_a_sign(rt: HostRuntime) -> Result<(), Fail> {
         assert_eq!(&rt; phase_between(&first, &second), Some(4));
     }
     Ok(())
+}
+
+#[test]
+fn limits_runs(rt: HostRuntime) -> Result<(), Fail> {
+    let alloc = rt.alloc();
+    let wide = "circuit 1\nin a b c d e f g h i\nout a b c d e f g h i\nend\n";
+    let size = Status::Limit {
+        which: 4,
+        found: 18,
+    };
+    let note = "mcalc: limit 4 found 18\n";
+    check(&rt, alloc, "run", wide.as_bytes(), (size, "", note))?;
+    let gates = Status::Limit {
+        which: 5,
+        found: 61,
+    };
+    let note = "mcalc: limit 5 found 61\n";
+    let long = row_of_gates(alloc, 61)?;
+    check(&rt, alloc, "run", long.as_slice(), (gates, "", note))
 }

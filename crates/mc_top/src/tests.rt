@@ -62,7 +62,7 @@ fn refuses(
 }
 
 /// A circuit with one input and so many `J` gates.
-fn row_of_gates(alloc: Global, gates: u32) -> Result<Vec<u8>, Fail> {
+pub(crate) fn row_of_gates(alloc: Global, gates: u32) -> Result<Vec<u8>, Fail> {
     let mut text = Vec::from_slice(alloc, b"circuit 1\nin a\n")?;
     for _ in 0..gates {
         text.extend_from_slice(b"j a 0\n")?;
