@@ -1,9 +1,10 @@
 -- What keeps an element in range.
-use Rattle.std.proofs.Common.{◌≡◌, ℕ, ℤ, List, length, arith, ap, ◌∙◌}
-use Rattle.mc_model.specs.Ring.{minus, rotations, length-minus}
+use Rattle.std.proofs.Common.{◌≡◌, ℕ, ◌+◌, ◌/◌, ◌%◌, ◌^◌, ◌<◌, ◌≤◌, ℤ, List, length, arith, sym, subst, ap, ◌∙◌}
+use Rattle.mc_model.specs.Ring.{plus, minus, rotations, length-plus, length-minus}
 use Rattle.mc_model.proofs.RingLemmas.{length-rotations}
-use Rattle.mc_cyclo.specs.Height.{height, height-minus, height-rotations}
+use Rattle.mc_cyclo.specs.Height.{height, height-plus, height-minus, height-rotations}
 use Rattle.mc_cyclo.specs.Cyclo.{IsCyclo}
+use Rattle.mc_cyclo.proofs.Turning.{even_half_turns, odd_half_turns}
 
 pub IsCyclo-minus : (half : ℕ) (a new : List ℤ) → new ≡ minus a → IsCyclo half a →
     IsCyclo half new
@@ -20,3 +21,27 @@ IsCyclo-rotations half k a new e is = record {
   long = ap length e ∙ length-rotations k a ∙ is.long;
   in_range = omega (arith, ap height e, height-rotations k a, is.in_range);
 }
+
+-- a sum with what is as high as another element
+pub IsCyclo-sum : (half : ℕ) (a b turned new : List ℤ) → new ≡ plus a turned →
+    length turned ≡ length b → height turned ≡ height b → IsCyclo half a → IsCyclo half b →
+    height a + height b ≤ 2 ^ 60 → IsCyclo half new
+IsCyclo-sum half a b turned new e long high is others low = record {
+  permitted = is.permitted;
+  long = ap length e
+      ∙ length-plus a turned (is.long ∙ sym others.long ∙ sym long)
+      ∙ is.long;
+  in_range = omega (arith, ap height e, height-plus a turned, high);
+}
+
+pub even_turns : (half k : ℕ) (a : List ℤ) → length a ≡ half → 0 < half →
+    k / half % 2 ≡ 0 → rotations (k % half) a ≡ rotations k a
+even_turns half k a long =
+    subst (λ n. 0 < n → k / n % 2 ≡ 0 → rotations (k % n) a ≡ rotations k a) long
+    (λ some even. sym (even_half_turns k a some even))
+
+pub odd_turns : (half k : ℕ) (a : List ℤ) → length a ≡ half → 0 < half →
+    k / half % 2 ≡ 1 → minus (rotations (k % half) a) ≡ rotations k a
+odd_turns half k a long =
+    subst (λ n. 0 < n → k / n % 2 ≡ 1 → minus (rotations (k % n) a) ≡ rotations k a) long
+    (λ some odd. sym (odd_half_turns k a some odd))

@@ -1,11 +1,11 @@
 -- Turns by parts of the list: what goes round comes back in front, as its negative.
-use Rattle.std.proofs.Common.{◌≡◌, ℕ, zero, suc, ◌+◌, ◌-◌, ◌*◌, ◌/◌, ◌%◌, ◌<◌, ◌≤◌, ℤ, List, [], ◌∷◌, ◌++◌, length, arith, sym, ap, ap₂, ◌∙◌, drop, take, slice_set, neg_ℤ}
-use Rattle.std.proofs.lemmas.List.{take-append-drop, length-drop}
+use Rattle.std.proofs.Common.{◌≡◌, ℕ, zero, suc, ◌+◌, ◌-◌, ◌*◌, ◌/◌, ◌%◌, ◌<◌, ◌≤◌, ℤ, List, [], ◌∷◌, ◌++◌, length, arith, sym, ap, ap₂, ◌∙◌, drop, take, slice_set, neg_ℤ, pos}
+use Rattle.std.proofs.lemmas.List.{take-append-drop, length-drop, get_or_append_left, get_or-append_right, get_or-drop, get_or-take}
 use Rattle.std.proofs.Math.Seq.{take-append_seam, drop-append_seam}
-use Rattle.mc_model.specs.Ring.{minus, rotated, rotations}
+use Rattle.mc_model.specs.Ring.{minus, rotated, rotations, length-minus}
 use Rattle.mc_model.proofs.RingLemmas.{rotations_back, rotations_add, rotations_half, length-rotations}
 use Rattle.mc_model.proofs.RootTwo.{minus_minus}
-use Rattle.mc_cyclo.proofs.Places.{at, drop-more, drop-whole}
+use Rattle.mc_cyclo.proofs.Places.{at, at-minus, drop-more, drop-whole}
 use Rattle.mc_cyclo.specs.Height.{height, IsInRange}
 
 -- the part of `s` coordinates that goes round
@@ -41,6 +41,26 @@ pub turned_by_parts : (s : ℕ) (a r : List ℤ) → s ≤ length a → r ≡ ro
     minus (take s r) ++ drop s r ≡ rotations s a
 turned_by_parts s a r h e =
     ap₂ (λ x y. minus x ++ y) (front s a r h e) (back s a r h e) ∙ sym (rotations_parts s a h)
+
+-- ---- coordinates behind `s` steps
+
+pub at-round : (s : ℕ) (a : List ℤ) (i : ℕ) → s ≤ length a → i < s →
+    at (rotations s a) i ≡ neg_ℤ (at a (length a - s + i))
+at-round s a i h l =
+    let n = length-minus (round s a) ∙ length-round s a h in
+    ap (λ t. at t i) (rotations_parts s a h)
+    ∙ get_or_append_left (minus (round s a)) (stayed s a) (pos 0) i (omega arith)
+    ∙ at-minus (round s a) i
+    ∙ ap neg_ℤ (get_or-drop (length a - s) a i (pos 0))
+
+pub at-stayed : (s : ℕ) (a : List ℤ) (i : ℕ) → s ≤ i → i < length a →
+    at (rotations s a) i ≡ at a (i - s)
+at-stayed s a i h l =
+    let few : s ≤ length a = omega arith in
+    ap (λ t. at t i) (rotations_parts s a few)
+    ∙ get_or-append_right (minus (round s a)) (stayed s a) s i (pos 0)
+    (length-minus (round s a) ∙ length-round s a few) h
+    ∙ get_or-take (length a - s) a (i - s) (pos 0) (omega arith)
 
 height-drop : (n : ℕ) (a : List ℤ) → height (drop n a) ≤ height a
 height-drop zero a = omega arith

@@ -1,6 +1,6 @@
 //! Coordinates in place.
 
-ghost use Rattle.std.specs.Prelude.{◌≡◌, ◌^◌, ◌<◌, ◌≤◌, ◌↔◌, length, IsTrue, MatchOption, ◌+ℤ◌, ℤ, List};
+ghost use Rattle.std.specs.Prelude.{◌≡◌, ◌+◌, ◌^◌, ◌<◌, ◌≤◌, ◌↔◌, length, slice_index_or, IsTrue, MatchOption, ◌+ℤ◌, ℤ, pos, List};
 ghost use lib.IntN.{neg_ℤ};
 ghost use Rattle.std.specs.Int.RustNames.{unsigned_abs};
 ghost use Rattle.mc_model.specs.Ring.{plus, minus, rotations};
@@ -78,6 +78,51 @@ pub fn turn(coordinates: &mut [i64], k: u32)
     negate(&mut coordinates[..steps]);
     if half_turns % 2 == 1 {
         negate(coordinates);
+    }
+}
+
+fn difference_of(x: i64, y: i64) -> i64
+    requires low_x { unsigned_abs x ≤ 2 ^ 60 }
+    requires low_y { unsigned_abs y ≤ 2 ^ 60 }
+    ensures { result ≡ x +ℤ neg_ℤ y }
+{
+    x - y
+}
+
+/// The coordinate at a place behind so many steps, of which there are no more than in half a turn.
+fn turned_at(coordinates: &[i64], steps: usize, i: usize) -> i64
+    requires few { steps ≤ length coordinates.now }
+    requires within { i < length coordinates.now }
+    requires in_range { IsInRange coordinates.now }
+    ensures { result ≡ slice_index_or (rotations steps coordinates.now) i (pos 0) }
+{
+    if i < steps {
+        negative_of(coordinates[coordinates.len() - steps + i])
+    } else {
+        coordinates[i - steps]
+    }
+}
+
+/// Writes the sum with the other coordinates behind so many steps, and the difference.
+pub fn cross(
+    coordinates: &[i64],
+    other: &[i64],
+    steps: usize,
+    sum: &mut [i64],
+    difference: &mut [i64],
+)
+    requires few { steps ≤ length other.now }
+    requires alike { length coordinates.now ≡ length other.now }
+    requires sum_alike { length sum.old ≡ length other.now }
+    requires difference_alike { length difference.old ≡ length other.now }
+    requires low { height coordinates.now + height other.now ≤ 2 ^ 60 }
+    ensures sum { sum.new ≡ plus coordinates.now (rotations steps other.now) }
+    ensures difference { difference.new ≡ plus coordinates.now (minus (rotations steps other.now)) }
+{
+    for i in 0..coordinates.len() {
+        let turned = turned_at(other, steps, i);
+        sum[i] = sum_of(coordinates[i], turned);
+        difference[i] = difference_of(coordinates[i], turned);
     }
 }
 

@@ -8,7 +8,7 @@ ghost use Rattle.mc_cyclo.specs.Height.{height, IsInRange};
 ghost use Rattle.mc_cyclo.specs.Cyclo.{IsLong, cyclo_laws, cyclo_turns, cyclo_heights};
 ghost use Rattle.mc_cyclo.specs.Roots.{root_times};
 
-use crate::coordinates::{add_to, halve, is_in_range, negate, turn};
+use crate::coordinates::{add_to, cross, halve, is_in_range, negate, turn};
 use crate::product::{multiply, narrow};
 use mc_ring::{PhaseRing, Ring};
 use std::marker::Model;
@@ -177,5 +177,30 @@ impl<const H: usize> PhaseRing for Cyclo<H> {
         let mut coordinates = self.coordinates;
         turn(&mut coordinates, k);
         Cyclo { coordinates }
+    }
+
+    fn negative(&self) -> Self {
+        let mut coordinates = self.coordinates;
+        negate(&mut coordinates);
+        Cyclo { coordinates }
+    }
+
+    fn cross(&self, other: &Self, k: u32) -> (Self, Self) {
+        let (coordinates, others) = (&self.coordinates, &other.coordinates);
+        let (half_turns, steps) = (k as usize / H, k as usize % H);
+        let mut sum = [0; H];
+        let mut difference = [0; H];
+        cross(coordinates, others, steps, &mut sum, &mut difference);
+        let (sum, difference) = (
+            Cyclo { coordinates: sum },
+            Cyclo {
+                coordinates: difference,
+            },
+        );
+        if half_turns % 2 == 1 {
+            (difference, sum)
+        } else {
+            (sum, difference)
+        }
     }
 }

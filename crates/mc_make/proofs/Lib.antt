@@ -1,4 +1,5 @@
 pub mod SetSums
+pub mod FixedCorrections
 pub mod GraphStates
 pub mod MeasuringOrder
 pub mod OrderLists
@@ -6,3 +7,8 @@ pub mod Corrected
 pub mod Determinism
 pub mod ZeroBranch
 pub mod ValidPatterns
+pub mod FlowScale
+pub mod FlowSignals
+pub mod ChosenFlows
+pub mod FlowSizes
+pub mod MadePatterns

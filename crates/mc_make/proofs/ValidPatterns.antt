@@ -11,13 +11,16 @@ use Rattle.mc_model.specs.Signals.{Signal, signal_of, IsRising}
 use Rattle.mc_model.specs.Pattern.{Command, Prep, Ent, Meas, FixX, FixZ}
 use Rattle.mc_model.specs.Valid.{prepared, measured, AllDone, IsLive, SignalFits, FitsBehind, IsValid, IsValidPattern}
 use Rattle.mc_model.specs.Translation.{preparations}
-use Rattle.mc_model.specs.Graph.{Edge, OpenGraph, size, is_output, base_angle, odd_neighbourhood, EdgesRise, IsOpenGraph, entanglings, graph_state, bare_measurement, zero_pattern}
+use Rattle.mc_model.specs.Graph.{Edge, OpenGraph, size, is_output, base_angle, odd_neighbourhood, EdgesRise, IsOpenGraph, entanglings, graph_state, bare_measurement, fixed_corrections, zero_pattern}
 use Rattle.mc_model.specs.Flow.{IsFlow, depth_of}
 use Rattle.mc_model.specs.Made.{measuring_order, corrected_measurement, flow_pattern}
-use Rattle.mc_model.proofs.BitLemmas.{replaced_same, replaced_other}
+use Rattle.mc_model.proofs.BitLemmas.{not_not, replaced_same, replaced_other}
+use Rattle.mc_model.proofs.PreparationLemmas.{measured-preparations}
 use Rattle.mc_model.proofs.ValidLemmas.{measured-append, prepared-append, next_measured, none_measured, valid_with, nothing_valid}
+use Rattle.mc_model.proofs.NumberLists.{count-where, member_once}
 use Rattle.mc_make.proofs.MeasuringOrder.{IsLater, IsOrder, IsWhere, where_all, all-weaker, measured_in_order}
-use Rattle.mc_make.proofs.OrderLists.{count-where, order_once, member_once}
+use Rattle.mc_make.proofs.FixedCorrections.{fixed_all, fixed_output}
+use Rattle.mc_make.proofs.OrderLists.{order_once}
 
 -- ---- lists without preparations, beside the qubits that are there and those that were measured
 
@@ -120,6 +123,51 @@ follows-prepared total done (Meas q a s t ∷ cs) f =
     follows-prepared total (replaced done q true) cs f.3
 follows-prepared total done (FixX q s ∷ cs) f = follows-prepared total done cs f.2
 follows-prepared total done (FixZ q s ∷ cs) f = follows-prepared total done cs f.2
+
+-- what was measured behind a list
+gone_after : Bits → List Command → Bits
+gone_after done [] = done
+gone_after done (Prep q ∷ cs) = gone_after done cs
+gone_after done (Ent q r ∷ cs) = gone_after done cs
+gone_after done (Meas q a s t ∷ cs) = gone_after (replaced done q true) cs
+gone_after done (FixX q s ∷ cs) = gone_after done cs
+gone_after done (FixZ q s ∷ cs) = gone_after done cs
+
+follows-append : (total : ℕ) (done : Bits) (cs ds : List Command) → Follows total done cs →
+    Follows total (gone_after done cs) ds → Follows total done (cs ++ ds)
+unfolding gone_after
+follows-append total done [] ds f g = g
+follows-append total done (Prep q ∷ cs) ds f g = absurd f
+follows-append total done (Ent q r ∷ cs) ds f g =
+    (f.0, f.1, f.2, follows-append total done cs ds f.3 g)
+follows-append total done (Meas q a s t ∷ cs) ds f g =
+    (f.0, f.1, f.2, follows-append total (replaced done q true) cs ds f.3 g)
+follows-append total done (FixX q s ∷ cs) ds f g =
+    (f.0, f.1, follows-append total done cs ds f.2 g)
+follows-append total done (FixZ q s ∷ cs) ds f g =
+    (f.0, f.1, follows-append total done cs ds f.2 g)
+
+measured_now : (done : Bits) (q : ℕ) (m : Bool) (k : ℕ) →
+    replaced done q true k || m ≡ done k || (nat_eq k q || m)
+measured_now done q m k = bits (nat_eq k q) (done k) m
+  where
+    bits : (e d m : Bool) → cond e true d || m ≡ d || (e || m)
+    bits true d m = grind arith
+    bits false d m = refl
+
+gone_after_is : (done : Bits) (cs : List Command) (k : ℕ) →
+    gone_after done cs k ≡ done k || measured cs k
+unfolding gone_after measured
+gone_after_is done [] k = sym (or_false (done k))
+  where
+    or_false : (b : Bool) → (b || false) ≡ b
+    or_false b = grind arith
+gone_after_is done (Prep q ∷ cs) k = gone_after_is done cs k
+gone_after_is done (Ent q r ∷ cs) k = gone_after_is done cs k
+gone_after_is done (Meas q a s t ∷ cs) k =
+    gone_after_is (replaced done q true) cs k ∙ measured_now done q (measured cs k) k
+gone_after_is done (FixX q s ∷ cs) k = gone_after_is done cs k
+gone_after_is done (FixZ q s ∷ cs) k = gone_after_is done cs k
 
 -- ---- the graph state
 
@@ -292,11 +340,6 @@ follows_rising g done p total q (suc n) low l = elim (cases_Bool (p q)) [
 
 -- ---- what is measured
 
-measured-preparations : (q n k : ℕ) → measured (preparations q n) k ≡ false
-unfolding measured preparations
-measured-preparations q zero k = refl
-measured-preparations q (suc n) k = measured-preparations (suc q) n k
-
 measured-edges : (es : List Edge) (k : ℕ) → measured (entanglings es) k ≡ false
 unfolding measured
 measured-edges [] k = refl
@@ -349,10 +392,52 @@ unfolding measured
 measured-bare g [] k = refl
 measured-bare g (q ∷ qs) k = ap (λ (b : Bool). nat_eq k q || b) (measured-bare g qs k)
 
--- ---- patterns
+-- ---- fixed corrections
 
-not_not : (b : Bool) → not (not b) ≡ b
-not_not b = grind arith
+abbrev IsFix : ℕ → Bits → Command → Type 0
+IsFix total done (Prep q) = ⊥
+IsFix total done (Ent q r) = ⊥
+IsFix total done (Meas q a s t) = ⊥
+IsFix total done (FixX q s) = IsThere total done q × IsIn done s
+IsFix total done (FixZ q s) = IsThere total done q × IsIn done s
+
+follows_fixes : (total : ℕ) (done : Bits) (cs : List Command) →
+    AllByRecursion (IsFix total done) cs → Follows total done cs
+follows_fixes total done [] all = tt
+follows_fixes total done (Prep q ∷ cs) all = absurd (all.0)
+follows_fixes total done (Ent q r ∷ cs) all = absurd (all.0)
+follows_fixes total done (Meas q a s t ∷ cs) all = absurd (all.0)
+follows_fixes total done (FixX q s ∷ cs) all =
+    (all.0.0, all.0.1, follows_fixes total done cs all.1)
+follows_fixes total done (FixZ q s ∷ cs) all =
+    (all.0.0, all.0.1, follows_fixes total done cs all.1)
+
+measured-fixes : (total : ℕ) (done : Bits) (cs : List Command) (k : ℕ) →
+    AllByRecursion (IsFix total done) cs → measured cs k ≡ false
+unfolding measured
+measured-fixes total done [] k all = refl
+measured-fixes total done (Prep q ∷ cs) k all = absurd (all.0)
+measured-fixes total done (Ent q r ∷ cs) k all = absurd (all.0)
+measured-fixes total done (Meas q a s t ∷ cs) k all = absurd (all.0)
+measured-fixes total done (FixX q s ∷ cs) k all = measured-fixes total done cs k all.1
+measured-fixes total done (FixZ q s ∷ cs) k all = measured-fixes total done cs k all.1
+
+-- the fixed corrections, where the vertices that are no outputs were measured
+all_fixes : (g : OpenGraph) (done : Bits) → IsOpenGraph g →
+    ((k : ℕ) → k < size g → done k ≡ not (is_output g k)) →
+    AllByRecursion (IsFix (size g) done) (fixed_corrections g)
+all_fixes g done valid gone =
+    fixed_all g (IsFix (size g) done)
+    (λ v l e. (
+      (l, gone v l ∙ ap not (fixed_output g valid (λ f. f.x) v l refl e)),
+      (tt, tt),
+    ))
+    (λ v l e. (
+      (l, gone v l ∙ ap not (fixed_output g valid (λ f. f.z) v l refl e)),
+      (tt, tt),
+    ))
+
+-- ---- patterns
 
 -- a valid pattern, where the vertices that are no outputs are measured behind the graph state
 patterned : (g : OpenGraph) (rest : List Command) → IsOpenGraph g →
@@ -362,22 +447,29 @@ patterned : (g : OpenGraph) (rest : List Command) → IsOpenGraph g →
       names = g.names;
       inputs = g.inputs;
       outputs = g.outputs;
-      commands = graph_state g ++ rest;
+      commands = graph_state g ++ (rest ++ fixed_corrections g);
     })
 patterned g rest valid f gone =
     let prepared_there = (prepared_all g valid).there in
     let first : List Command = preparations g.inputs (size g - g.inputs) in
+    let whole : List Command = rest ++ fixed_corrections g in
+    let fixes : AllByRecursion (IsFix (size g) (gone_after all_zero rest)) (fixed_corrections g) =
+    all_fixes g (gone_after all_zero rest) valid
+    (λ k l. gone_after_is all_zero rest k ∙ gone k l) in
+    let follows : Follows (size g) all_zero whole =
+    follows-append (size g) all_zero rest (fixed_corrections g) f
+    (follows_fixes (size g) (gone_after all_zero rest) (fixed_corrections g) fixes) in
     record {
       names = valid.names;
       qubits =
           sym prepared_there
           ∙ ap (λ (n : ℕ). g.inputs + n) (sym (
-          ap prepared (append_assoc first (entanglings g.edges) rest)
-          ∙ prepared-append first (entanglings g.edges ++ rest)
+          ap prepared (append_assoc first (entanglings g.edges) whole)
+          ∙ prepared-append first (entanglings g.edges ++ whole)
           ∙ nothing (prepared first) (follows-prepared (size g) all_zero
-          (entanglings g.edges ++ rest)
-          (follows_edges (size g) g.edges rest valid.edges f))));
-      commands = follows_graph g rest valid f;
+          (entanglings g.edges ++ whole)
+          (follows_edges (size g) g.edges whole valid.edges follows))));
+      commands = follows_graph g whole valid follows;
       outputs = record {
         below = valid.outputs.below;
         once = λ q l.
@@ -385,7 +477,12 @@ patterned g rest valid f gone =
             valid.outputs.once q l
             ∙ ap (λ (b : Bool). cond b 1 0)
             (sym out ∙ sym (not_not (is_output g q))
-            ∙ ap not (sym (measured-graph g rest q ∙ gone q l)));
+            ∙ ap not (sym (measured-graph g whole q
+            ∙ measured-append rest (fixed_corrections g) q
+            ∙ ap (λ (b : Bool). measured rest q || b)
+            (measured-fixes (size g) (gone_after all_zero rest) (fixed_corrections g) q fixes)
+            ∙ or_false (measured rest q)
+            ∙ gone q l)));
       };
     }
   where

@@ -1,14 +1,21 @@
 -- The laws of patterns made from flows, over the amplitude ring with any `half` above 0.
-use Rattle.std.specs.Prelude.{◌≡◌, ℕ, ◌<◌, ◌≤◌, Bool, not, List, ◌∷◌, ◌++◌}
+use Rattle.std.specs.Prelude.{◌≡◌, ℕ, ◌<◌, ◌≤◌, Bool, true, false, not, List, [], ◌∷◌, ◌++◌, length}
+use Rattle.std.specs.List.{list_any}
 use Rattle.mc_model.specs.Numbers.{ListsOnce}
 use Rattle.mc_model.specs.Bits.{Bits, all_zero}
 use Rattle.mc_model.specs.Ring.{ring}
-use Rattle.mc_model.specs.Amplitude.{zero_branch}
+use Rattle.mc_model.specs.Signals.{Signal}
+use Rattle.mc_model.specs.Pattern.{Command, FixZ, Pattern, has_constant}
+use Rattle.mc_model.specs.Amplitude.{zero_branch, pattern_scale}
 use Rattle.mc_model.specs.Alike.{AlikeBranches}
 use Rattle.mc_model.specs.Valid.{IsValidPattern}
-use Rattle.mc_model.specs.Graph.{OpenGraph, size, is_output, IsOpenGraph, zero_pattern}
+use Rattle.mc_model.specs.Graph.{OpenGraph, size, is_output, IsOpenGraph, graph_of, fixed_corrections, zero_pattern}
 use Rattle.mc_model.specs.Flow.{IsFlow, depth_of}
+use Rattle.mc_model.specs.Choice.{IsChosenFlow}
 use Rattle.mc_model.specs.Made.{flow_pattern, measuring_order}
+use Rattle.mc_model.specs.StandardForm.{standard_form}
+use Rattle.mc_model.specs.Shift.{HasNoSecondSignals}
+use Rattle.mc_model.specs.Depth.{IsDependenceDepth}
 
 -- whatever the flow, each branch map of its pattern is the zero branch, up to one power of `w`
 abbrev pub FlowPatternsAreDeterministic : Type 0
@@ -16,7 +23,7 @@ FlowPatternsAreDeterministic = (half : ℕ) → 0 < half → (g : OpenGraph) →
     (sets : ℕ → Bits) (layer : ℕ → ℕ) → IsFlow g sets layer → (o : Bits) →
     AlikeBranches (ring half) (flow_pattern g sets layer) o (flow_pattern g sets layer) all_zero
 
--- whatever the flow, the zero branch of its pattern is that of the pattern without corrections
+-- whatever the flow, the zero branch of its pattern is that of the pattern without a flow
 abbrev pub ZeroBranchOfFlowPattern : Type 0
 ZeroBranchOfFlowPattern = (half : ℕ) → 0 < half → (g : OpenGraph) → IsOpenGraph g →
     (sets : ℕ → Bits) (layer : ℕ → ℕ) → IsFlow g sets layer → (y : List Bool) (b : Bits) →
@@ -39,6 +46,66 @@ abbrev pub FlowPatternsAreValid : Type 0
 FlowPatternsAreValid = (g : OpenGraph) (sets : ℕ → Bits) (layer : ℕ → ℕ) → IsOpenGraph g →
     IsFlow g sets layer → IsValidPattern (flow_pattern g sets layer)
 
--- the pattern without corrections is valid
+-- and has not too many commands
+abbrev pub FlowPatternsFit : Type 0
+FlowPatternsFit = (g : OpenGraph) (sets : ℕ → Bits) (layer : ℕ → ℕ) → IsOpenGraph g →
+    length (flow_pattern g sets layer).commands ≤ 262144
+
+-- the pattern without a flow is valid
 abbrev pub ZeroPatternsAreValid : Type 0
 ZeroPatternsAreValid = (g : OpenGraph) → IsOpenGraph g → IsValidPattern (zero_pattern g)
+
+-- the pattern of a flow has the scale of the pattern without a flow
+abbrev pub FlowPatternsKeepScale : Type 0
+FlowPatternsKeepScale = (g : OpenGraph) (sets : ℕ → Bits) (layer : ℕ → ℕ) →
+    IsFlow g sets layer → pattern_scale (flow_pattern g sets layer) ≡ pattern_scale (zero_pattern g)
+
+-- without fixed corrections no signal of a flow's pattern has the constant
+abbrev pub FlowPatternsHaveNoConstants : Type 0
+FlowPatternsHaveNoConstants = (g : OpenGraph) (sets : ℕ → Bits) (layer : ℕ → ℕ) →
+    fixed_corrections g ≡ [] → list_any has_constant (flow_pattern g sets layer).commands ≡ false
+
+-- the chosen flow is a flow
+abbrev pub ChosenFlowsAreFlows : Type 0
+ChosenFlowsAreFlows = (g : OpenGraph) (sets : ℕ → Bits) (layer : ℕ → ℕ) →
+    IsChosenFlow g sets layer → IsFlow g sets layer
+
+-- no flow is less deep than the chosen one
+abbrev pub ChosenFlowsAreLeastDeep : Type 0
+ChosenFlowsAreLeastDeep = (g : OpenGraph) (sets : ℕ → Bits) (layer : ℕ → ℕ) →
+    IsChosenFlow g sets layer → (sets' : ℕ → Bits) (layer' : ℕ → ℕ) → IsFlow g sets' layer' →
+    depth_of g layer ≤ depth_of g layer'
+
+-- the chosen flow's pattern corrects by `Z` on outputs alone
+abbrev pub ChosenPatternsFixZOnOutputs : Type 0
+ChosenPatternsFixZOnOutputs = (g : OpenGraph) (sets : ℕ → Bits) (layer : ℕ → ℕ) →
+    IsOpenGraph g → IsChosenFlow g sets layer →
+    (before behind : List Command) (k : ℕ) (s : Signal) →
+    (flow_pattern g sets layer).commands ≡ before ++ (FixZ k s ∷ behind) → is_output g k ≡ true
+
+-- so its standard form has no second signals
+abbrev pub ChosenPatternsHaveNoSecondSignals : Type 0
+ChosenPatternsHaveNoSecondSignals = (g : OpenGraph) (sets : ℕ → Bits) (layer : ℕ → ℕ) →
+    IsOpenGraph g → IsChosenFlow g sets layer →
+    HasNoSecondSignals (standard_form (flow_pattern g sets layer)).commands
+
+-- and its dependence depth is at most the depth of the flow
+abbrev pub DependenceWithinLayers : Type 0
+DependenceWithinLayers = (g : OpenGraph) (sets : ℕ → Bits) (layer : ℕ → ℕ) →
+    IsOpenGraph g → IsChosenFlow g sets layer → (d : ℕ) →
+    IsDependenceDepth (standard_form (flow_pattern g sets layer)).commands d →
+    d ≤ depth_of g layer
+
+-- what is made from a pattern by a flow of its graph: a valid pattern of its scale, each branch of
+-- which is alike with its zero branch; without constants its zero branch is the pattern's
+pub record IsMadeFrom (half : ℕ) (p q : Pattern) : Type 0 where
+  pub valid : IsValidPattern q
+  pub scale : pattern_scale q ≡ pattern_scale p
+  pub alike : (o : Bits) → AlikeBranches (ring half) q o p all_zero
+  pub exact : list_any has_constant p.commands ≡ false → (y : List Bool) (b : Bits) →
+      zero_branch (ring half) q y b ≡ zero_branch (ring half) p y b
+
+abbrev pub FlowPatternsAreMade : Type 0
+FlowPatternsAreMade = (half : ℕ) → 0 < half → (p : Pattern) → IsValidPattern p →
+    (sets : ℕ → Bits) (layer : ℕ → ℕ) → IsFlow (graph_of half p) sets layer →
+    IsMadeFrom half p (flow_pattern (graph_of half p) sets layer)

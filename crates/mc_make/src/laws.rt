@@ -1,13 +1,15 @@
 //! What is proved of the patterns that are made from flows.
 
-ghost use Rattle.mc_make.specs.Laws.{FlowPatternsAreDeterministic, FlowPatternsAreValid, MeasuringOrderFalls, ZeroBranchOfFlowPattern, ZeroPatternsAreValid};
+ghost use Rattle.mc_make.specs.Laws.{ChosenFlowsAreFlows, ChosenFlowsAreLeastDeep, ChosenPatternsFixZOnOutputs, ChosenPatternsHaveNoSecondSignals, DependenceWithinLayers, FlowPatternsAreDeterministic, FlowPatternsAreMade, FlowPatternsAreValid, FlowPatternsFit, FlowPatternsHaveNoConstants, FlowPatternsKeepScale, MeasuringOrderFalls, ZeroBranchOfFlowPattern, ZeroPatternsAreValid};
+
+use mc_graph::graphs_keep_zero_branch;
 
 /// For every flow of an open graph all branches of its pattern are alike.
 pub fn flow_patterns_are_deterministic()
     ensures { FlowPatternsAreDeterministic }
 {}
 
-/// For every flow of an open graph its pattern has the zero branch of the graph's pattern without corrections.
+/// For every flow of an open graph its pattern has the zero branch of the graph's pattern without a flow.
 pub fn zero_branch_of_flow_pattern()
     ensures { ZeroBranchOfFlowPattern }
 {}
@@ -22,7 +24,54 @@ pub fn flow_patterns_are_valid()
     ensures { FlowPatternsAreValid }
 {}
 
-/// The pattern of an open graph without corrections is valid.
+/// The pattern of an open graph without a flow is valid.
 pub fn zero_patterns_are_valid()
     ensures { ZeroPatternsAreValid }
 {}
+
+/// The pattern of a flow prepares and measures as many qubits as the graph's pattern without a flow.
+pub fn flow_patterns_keep_scale()
+    ensures { FlowPatternsKeepScale }
+{}
+
+/// The pattern of a flow has at most 262,144 commands.
+pub fn flow_patterns_fit()
+    ensures { FlowPatternsFit }
+{}
+
+/// Where the graph has no fixed corrections, no signal of a flow's pattern has the constant.
+pub fn flow_patterns_have_no_constants()
+    ensures { FlowPatternsHaveNoConstants }
+{}
+
+/// The chosen flow is a flow.
+pub fn chosen_flows_are_flows()
+    ensures { ChosenFlowsAreFlows }
+{}
+
+/// No flow of the graph is less deep than the chosen one.
+pub fn chosen_flows_are_least_deep()
+    ensures { ChosenFlowsAreLeastDeep }
+{}
+
+/// The pattern of the chosen flow corrects by `Z` on outputs alone.
+pub fn chosen_patterns_fix_z_on_outputs()
+    ensures { ChosenPatternsFixZOnOutputs }
+{}
+
+/// The standard form of the chosen flow's pattern has no second signals.
+pub fn chosen_patterns_have_no_second_signals()
+    ensures { ChosenPatternsHaveNoSecondSignals }
+{}
+
+/// The dependence depth of that standard form is at most the depth of the flow.
+pub fn dependence_within_layers()
+    ensures { DependenceWithinLayers }
+{}
+
+/// Whatever the flow of a pattern's graph, each branch of the flow's pattern is alike with the zero branch of the pattern.
+pub fn flow_patterns_are_made()
+    ensures { FlowPatternsAreMade }
+{
+    graphs_keep_zero_branch();
+}

@@ -4,7 +4,7 @@ use mathlib.Core.Path.{fun_ext}
 use Rattle.mc_model.specs.Phase.{PhaseOps, PhaseLaws, turn, negated}
 use Rattle.mc_model.specs.Bits.{Bits, replaced}
 use Rattle.mc_model.specs.Signals.{value}
-use Rattle.mc_model.specs.Pattern.{Command, Prep, Ent, Meas, FixX, FixZ}
+use Rattle.mc_model.specs.Pattern.{Command, Prep, Ent, Meas, FixX, FixZ, Pattern}
 use Rattle.mc_model.specs.Amplitude.{Amps, act, after, start, placed, amp, branch_map}
 use Rattle.mc_model.specs.Alike.{AlikeCommands, AlikeBranches}
 use Rattle.mc_model.proofs.PhaseLemmas.{turn-add, turn_comm, turn-sum, turn-negated, sign-turn, turn-modulo}
@@ -82,4 +82,29 @@ module _ {E : Type 0} (ops : PhaseOps E) (laws : PhaseLaws ops) where
         within = omega arith;
         same = λ y b.
             h.same (start ops inputs b) (placed outputs y) ∙ sym (turn-modulo ops laws h.phase _);
+      }
+
+  pub branches_on : (p q r : Pattern) (o o' o'' : Bits) → AlikeBranches ops p o q o' →
+      AlikeBranches ops q o' r o'' → AlikeBranches ops p o r o''
+  branches_on p q r o o' o'' h k =
+      let positive = laws.half_positive in
+      record {
+        phase = (h.phase + k.phase) % (2 * ops.half);
+        within = omega arith;
+        same = λ y b.
+            h.same y b ∙ ap (turn ops h.phase) (k.same y b)
+            ∙ sym (turn-add ops laws h.phase k.phase _)
+            ∙ sym (turn-modulo ops laws (h.phase + k.phase) _);
+      }
+
+  pub branches_back : (p q : Pattern) (o o' : Bits) → AlikeBranches ops p o q o' →
+      AlikeBranches ops q o' p o
+  unfolding negated
+  branches_back p q o o' h =
+      let positive = laws.half_positive in
+      record {
+        phase = negated ops.half h.phase;
+        within = omega arith;
+        same = λ y b.
+            sym (turn-negated ops laws h.phase _) ∙ ap (turn ops _) (sym (h.same y b));
       }

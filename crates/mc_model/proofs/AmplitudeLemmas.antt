@@ -1,12 +1,20 @@
 -- Amplitudes of appended lists, by the last command, and phases below a whole turn.
-use Rattle.std.proofs.Common.{◌≡◌, ℕ, ◌*◌, ◌%◌, ◌<◌, ◌++◌, zero, suc, List, [], ◌∷◌, refl, sym, ◌∙◌, arith}
+use Rattle.std.proofs.Common.{◌≡◌, ℕ, ◌*◌, ◌%◌, ◌<◌, ◌&&◌, ◌++◌, zero, suc, Bool, cond, not, List, [], ◌∷◌, refl, sym, ◌∙◌, ap, ap₂, arith}
 use Rattle.mc_model.specs.Phase.{PhaseOps, PhaseLaws, turn}
-use Rattle.mc_model.specs.Bits.{Bits}
-use Rattle.mc_model.specs.Pattern.{Command}
-use Rattle.mc_model.specs.Amplitude.{Amps, act, after}
+use Rattle.mc_model.specs.Bits.{◌⊻◌, Bits}
+use Rattle.mc_model.specs.Pattern.{Command, Gate}
+use Rattle.mc_model.specs.Amplitude.{Amps, act, after, act_gate, after_gates, agrees, start}
 use Rattle.mc_model.specs.Translation.{preparations}
 use Rattle.mc_model.specs.Alike.{AlikeAmps}
 use Rattle.mc_model.proofs.PhaseLemmas.{turn-modulo}
+
+pub agrees_same : (b x y : Bits) (n : ℕ) → ((v : ℕ) → v < n → x v ≡ y v) →
+    agrees n b x ≡ agrees n b y
+agrees_same b x y zero agree = refl
+agrees_same b x y (suc n) agree =
+    ap₂ (λ (s t : Bool). not (b n ⊻ s) && t)
+    (agree n (omega arith))
+    (agrees_same b x y n (λ v h. agree v (omega arith)))
 
 module _ {E : Type 0} (ops : PhaseOps E) (laws : PhaseLaws ops) where
   pub after-append : (o : Bits) (cs ds : List Command) (f : Amps E) →
@@ -37,3 +45,16 @@ module _ {E : Type 0} (ops : PhaseOps E) (laws : PhaseLaws ops) where
         λ x. h.same x
             ∙ sym (turn-modulo ops laws h.phase (g x)),
       )
+
+  pub gates-append : (gs hs : List Gate) (f : Amps E) →
+      after_gates ops (gs ++ hs) f ≡ after_gates ops hs (after_gates ops gs f)
+  unfolding after_gates
+  gates-append [] hs f = refl
+  gates-append (g ∷ gs) hs f = gates-append gs hs (act_gate ops g f)
+
+  -- the start looks at the inputs alone
+  pub start_same : (b x y : Bits) (n : ℕ) → ((v : ℕ) → v < n → x v ≡ y v) →
+      start ops n b x ≡ start ops n b y
+  unfolding start
+  start_same b x y n agree =
+      ap (λ (t : Bool). cond t ops.one ops.nought) (agrees_same b x y n agree)

@@ -1,5 +1,5 @@
 -- Settings with a bit replaced, and sums of bits.
-use Rattle.std.proofs.Common.{◌≡◌, ℕ, Bool, false, cond, refl, ap, arith}
+use Rattle.std.proofs.Common.{◌≡◌, ℕ, Bool, true, false, cond, not, ◌&&◌, refl, ap, arith}
 use Rattle.std.specs.Prelude.{nat_eq}
 use Rattle.std.proofs.lemmas.Bool.{eq-eqb, ne_eqb, cases_Bool, cases_eq}
 use mathlib.Core.Logic.{inl, inr}
@@ -14,6 +14,12 @@ replaced_other x i b k ne = ap (λ (t : Bool). cond t b (x k)) (ne_eqb k i ne)
 
 pub xor_false : (b : Bool) → b ⊻ false ≡ b
 xor_false b = grind arith
+
+pub and_true : (b : Bool) → b && true ≡ b
+and_true b = grind arith
+
+pub not_not : (b : Bool) → not (not b) ≡ b
+not_not b = grind arith
 
 pub xor_assoc : (a b c : Bool) → (a ⊻ b) ⊻ c ≡ a ⊻ (b ⊻ c)
 xor_assoc a b c = grind arith

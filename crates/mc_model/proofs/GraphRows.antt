@@ -1,6 +1,6 @@
 -- Worked graphs, computed.
 use Rattle.std.proofs.Common.{◌≡◌, ℕ, zero, suc, Bool, true, false, List, [], ◌∷◌, refl, codes}
-use Rattle.std.specs.Prelude.{ℤ, pos, negsuc, map, Some, None}
+use Rattle.std.specs.Prelude.{ℤ, pos, negsuc, map, replicate, Some, None}
 use Rattle.mc_model.specs.Names.{Name}
 use Rattle.mc_model.specs.Numbers.{is_member, numbers_from, pairs_at, pairs_below}
 use Rattle.mc_model.specs.Bits.{Bits, parity, all_zero}
@@ -10,10 +10,11 @@ use Rattle.mc_model.specs.Ring.{ring}
 use Rattle.mc_model.specs.Pattern.{Prep, Ent, Meas, FixX, FixZ, J, CZ}
 use Rattle.mc_model.specs.Amplitude.{start, act, after, amp, branch_map, placed}
 use Rattle.mc_model.specs.Translation.{preparations}
-use Rattle.mc_model.specs.StandardForm.{is_edge}
-use Rattle.mc_model.specs.Graph.{edge, OpenGraph, joins, odd_neighbourhood, graph_of, angle_in, zero_pattern}
+use Rattle.mc_model.specs.Valid.{measured}
+use Rattle.mc_model.specs.StandardForm.{is_edge, first_sum, second_sum, sum_over_places, first_part, second_part, x_sum, x_part}
+use Rattle.mc_model.specs.Graph.{edge, OpenGraph, joins, odd_neighbourhood, not_fixed, graph_of, angle_in, fixed_corrections, zero_pattern}
 use Rattle.mc_model.specs.Flow.{depth_of}
-use Rattle.mc_model.specs.Made.{measuring_order, corrected_measurement, flow_pattern, chain_start, extracted_gates, extracted_circuit}
+use Rattle.mc_model.specs.Made.{measuring_order, corrected_measurement, flow_pattern, chain_start, extracted_gates, fixed_gates, extracted_circuit}
 
 -- which of the vertices below `n` are in a set
 abbrev pub table : ℕ → Bits → List Bool
@@ -28,6 +29,7 @@ chain = record {
   outputs = 3 ∷ [];
   edges = edge 0 1 ∷ edge 1 2 ∷ edge 2 3 ∷ [];
   angles = Some 0 ∷ Some 0 ∷ Some 0 ∷ None ∷ [];
+  fixed = replicate 4 not_fixed;
 }
 
 -- `a` is corrected by `b d`, `b` by `c`, `c` by `d`
@@ -71,7 +73,7 @@ pub chain_made : flow_pattern chain chain_sets chain_layer ≡ record {
       ∷ Meas 1 0 no_signal no_signal ∷ FixX 2 (signal_of 1) ∷ FixZ 3 (signal_of 1)
       ∷ Meas 2 0 no_signal no_signal ∷ FixX 3 (signal_of 2) ∷ [];
 }
-unfolding parity joins flow_pattern measuring_order corrected_measurement preparations
+unfolding parity joins flow_pattern measuring_order corrected_measurement preparations fixed_corrections
 chain_made = refl
 
 -- each vertex is followed by its neighbour: one wire, with three gates
@@ -81,7 +83,7 @@ pub chain_extracted : extracted_circuit 4 chain suc chain_layer ≡ record {
   outputs = 0 ∷ [];
   gates = J 0 0 ∷ J 0 0 ∷ J 0 0 ∷ [];
 }
-unfolding joins measuring_order chain_start extracted_gates extracted_circuit negated
+unfolding joins measuring_order chain_start extracted_gates extracted_circuit negated fixed_gates
 chain_extracted = refl
 
 -- ---- three inputs and three outputs, with a flow of depth 1 and no causal flow
@@ -98,6 +100,7 @@ with_flow = record {
   edges =
       edge 0 3 ∷ edge 0 4 ∷ edge 1 3 ∷ edge 1 4 ∷ edge 1 5 ∷ edge 2 3 ∷ edge 2 5 ∷ [];
   angles = Some 0 ∷ Some 0 ∷ Some 0 ∷ None ∷ None ∷ None ∷ [];
+  fixed = replicate 6 not_fixed;
 }
 
 -- the sets `b1 b3`, `b1 b2 b3` and `b1 b2`: each is odd at its own input alone
@@ -125,6 +128,7 @@ without_flow = record {
   outputs = 3 ∷ 4 ∷ 5 ∷ [];
   edges = edge 0 3 ∷ edge 0 5 ∷ edge 1 3 ∷ edge 1 4 ∷ edge 2 4 ∷ edge 2 5 ∷ [];
   angles = Some 0 ∷ Some 0 ∷ Some 0 ∷ None ∷ None ∷ None ∷ [];
+  fixed = replicate 6 not_fixed;
 }
 
 -- every vertex outside `a1 a2 a3` has an even number of neighbours in it
@@ -142,6 +146,7 @@ two_outputs = record {
   outputs = 0 ∷ 1 ∷ [];
   edges = edge 0 1 ∷ [];
   angles = None ∷ None ∷ [];
+  fixed = replicate 2 not_fixed;
 }
 
 pub two_outputs_depth : depth_of two_outputs (λ v. 0) ≡ 0
@@ -153,7 +158,7 @@ pub two_outputs_made : flow_pattern two_outputs (λ i. all_zero) (λ v. 0) ≡ r
   outputs = 0 ∷ 1 ∷ [];
   commands = Prep 1 ∷ Ent 0 1 ∷ [];
 }
-unfolding flow_pattern measuring_order preparations
+unfolding flow_pattern measuring_order preparations fixed_corrections
 two_outputs_made = refl
 
 pub two_outputs_extracted : extracted_circuit 4 two_outputs (λ v. v) (λ v. 0) ≡ record {
@@ -162,7 +167,7 @@ pub two_outputs_extracted : extracted_circuit 4 two_outputs (λ v. v) (λ v. 0) 
   outputs = 0 ∷ 1 ∷ [];
   gates = CZ 0 1 ∷ [];
 }
-unfolding measuring_order chain_start extracted_gates extracted_circuit
+unfolding measuring_order chain_start extracted_gates extracted_circuit fixed_gates
 two_outputs_extracted = refl
 
 -- the zero pattern's map: -1 where input and outputs are 1
@@ -180,12 +185,12 @@ number n = n ∷ pos 0 ∷ pos 0 ∷ pos 0 ∷ []
 
 two_outputs_map : zero_entries
     ≡ number (pos 1) ∷ number (pos 1) ∷ number (pos 1) ∷ number (negsuc 0) ∷ number (pos 0) ∷ []
-unfolding zero_entries zero_pattern preparations branch_map placed amp after act start
+unfolding zero_entries zero_pattern fixed_corrections preparations branch_map placed amp after act start
 two_outputs_map = refl
 
 -- ---- the graph of a pattern with two gates in a row
 
-pub graph_of_two_gates : graph_of (record {
+pub graph_of_two_gates : graph_of 4 (record {
   names = codes "a" ∷ codes "q1" ∷ codes "q2" ∷ [];
   inputs = 1;
   outputs = 2 ∷ [];
@@ -199,6 +204,8 @@ pub graph_of_two_gates : graph_of (record {
       outputs = 2 ∷ [];
       edges = edge 0 1 ∷ edge 1 2 ∷ [];
       angles = Some 7 ∷ Some 6 ∷ None ∷ [];
+      fixed = replicate 3 not_fixed;
     }
-unfolding graph_of pairs_below pairs_at is_edge angle_in
+unfolding graph_of pairs_below pairs_at is_edge angle_in measured first_sum second_sum sum_over_places
+    first_part second_part x_sum x_part
 graph_of_two_gates = refl

@@ -7,7 +7,15 @@ pub mod PhaseLemmas
 pub mod AmplitudeLemmas
 pub mod AlikeLemmas
 pub mod ValidLemmas
+pub mod PreparationLemmas
 pub mod OddSums
 pub mod Refutation
+pub mod PairLemmas
 pub mod CircuitRows
 pub mod GraphRows
+pub mod FixedRows
+pub mod ExchangeLaws
+pub mod NumberLists
+pub mod AnyOrder
+pub mod Scales
+pub mod FixedGates

@@ -7,7 +7,7 @@ use Rattle.mc_model.specs.Graph.{Edge, OpenGraph, size, joins, odd_neighbourhood
 use Rattle.mc_model.specs.Flow.{IsFlow, CorrectsAt, IsCausalFlow, single, IsRefuter, RefutesAt, IsStuckSet}
 use Rattle.mc_model.proofs.OddSums.{odd-same, odd-none, odd-and, odd-exchange, odd-one, and_swap}
 
-same_pair_swap : (a b c d : Bool) → (a && b) || (c && d) ≡ (d && c) || (b && a)
+pub same_pair_swap : (a b c d : Bool) → (a && b) || (c && d) ≡ (d && c) || (b && a)
 same_pair_swap a b c d = grind arith
 
 pub joins_comm : (es : List Edge) (v w : ℕ) → joins es v w ≡ joins es w v
@@ -83,11 +83,11 @@ refuted g B y r sets layer f =
 
 -- ---- stuck sets
 
-single_itself : (u : ℕ) → single u u ≡ true
+pub single_itself : (u : ℕ) → single u u ≡ true
 single_itself u = eq-eqb u u refl
 
 -- the odd neighbourhood of one vertex is its neighbours
-odd_of_single : (g : OpenGraph) (w v : ℕ) → w < size g →
+pub odd_of_single : (g : OpenGraph) (w v : ℕ) → w < size g →
     odd_neighbourhood g (single w) v ≡ joins g.edges v w
 odd_of_single g w v l = by (joins g.edges v w) refl
   where

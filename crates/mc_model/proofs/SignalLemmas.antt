@@ -1,12 +1,12 @@
--- Values of signals: of a toggled set, of a sum; a rising list of numbers is determined by its
--- values.
+-- Values of signals: of a toggled set, of a sum, at outcomes 0; a rising list of numbers is
+-- determined by its values.
 use Rattle.std.proofs.Common.{◌≡◌, ℕ, ◌<◌, Bool, true, false, cond, List, [], ◌∷◌, refl, sym, ◌∙◌, ap, ap₂, arith}
 use Rattle.std.specs.Prelude.{nat_eq, nat_lt}
 use Rattle.std.proofs.lemmas.Bool.{eq-eqb, ne_eqb, cases_Bool, cases_order, eqb-false, eqb-true, ltb-true, ltb-false, false≢true}
 use mathlib.Core.Logic.{inl, inr}
-use Rattle.mc_model.specs.Bits.{◌⊻◌, Bits, parity}
+use Rattle.mc_model.specs.Bits.{◌⊻◌, Bits, parity, all_zero}
 use Rattle.mc_model.specs.Signals.{toggled, toggled_all, AllAbove, IsRising, Signal, Signals, value, signal_sum}
-use Rattle.mc_model.proofs.BitLemmas.{xor_twice, xor_left, xor_assoc, xor_middle}
+use Rattle.mc_model.proofs.BitLemmas.{xor_false, xor_twice, xor_left, xor_assoc, xor_middle}
 
 parity-toggled : (q : ℕ) (ps : List ℕ) (o : Bits) → parity (toggled q ps) o ≡ o q ⊻ parity ps o
 unfolding parity toggled
@@ -34,6 +34,16 @@ unfolding value
 value-sum s t o =
     ap (λ (b : Bool). (s.constant ⊻ t.constant) ⊻ b) (parity-toggled_all s.members t.members o)
     ∙ xor_middle s.constant t.constant (parity s.members o) (parity t.members o)
+
+parity-zero : (ps : List ℕ) → parity ps all_zero ≡ false
+unfolding parity
+parity-zero [] = refl
+parity-zero (p ∷ ps) = parity-zero ps
+
+-- where every outcome is 0 a signal has its constant as value
+pub zero_value : (s : Signal) → value s all_zero ≡ s.constant
+unfolding value
+zero_value s = ap (λ (b : Bool). s.constant ⊻ b) (parity-zero s.members) ∙ xor_false s.constant
 
 -- the outcomes that are 1 at `q` alone
 only : ℕ → Bits

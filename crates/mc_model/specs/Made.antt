@@ -5,7 +5,7 @@ use Rattle.mc_model.specs.Bits.{Bits}
 use Rattle.mc_model.specs.Phase.{negated}
 use Rattle.mc_model.specs.Signals.{signal_of}
 use Rattle.mc_model.specs.Pattern.{Command, FixX, FixZ, Pattern, Gate, J, CZ, Circuit}
-use Rattle.mc_model.specs.Graph.{OpenGraph, size, is_output, base_angle, odd_neighbourhood, joins, graph_state, bare_measurement}
+use Rattle.mc_model.specs.Graph.{OpenGraph, size, is_output, base_angle, odd_neighbourhood, joins, graph_state, bare_measurement, fixed_at, where_fixed, fixed_corrections}
 use Rattle.mc_model.specs.Flow.{depth_of}
 
 -- the vertices that are no outputs, from the layer `k` down, and within a layer by rising number
@@ -30,8 +30,9 @@ flow_pattern g sets layer = record {
   outputs = g.outputs;
   commands =
       graph_state g
-      ++ flat_map (λ i. corrected_measurement g (sets i) i)
-      (measuring_order g layer (depth_of g layer));
+      ++ (flat_map (λ i. corrected_measurement g (sets i) i)
+      (measuring_order g layer (depth_of g layer))
+      ++ fixed_corrections g);
 }
 
 -- ---- extraction: a wire is a chain of vertices, each the next of the one before it
@@ -80,7 +81,17 @@ extracted_gates g next half done (i ∷ is) =
     (numbers_where (λ k. joins g.edges (next i) k && is_current g next (i ∷ done) k) (size g))
     ++ extracted_gates g next half (i ∷ done) is)
 
--- the edges between first vertices, then those gates
+-- the fixed corrections of a vertex as gates on its wire, two for each, and those of all by rising
+-- number
+abbrev pub gates_at : ℕ → OpenGraph → (ℕ → ℕ) → ℕ → List Gate
+gates_at half g next v =
+    let w = wire_of g next v in
+    where_fixed (fixed_at g v) (J w 0 ∷ J w half ∷ []) (J w half ∷ J w 0 ∷ [])
+
+unfoldable pub fixed_gates : ℕ → OpenGraph → (ℕ → ℕ) → List Gate
+fixed_gates half g next = flat_map (gates_at half g next) (numbers_from 0 (size g))
+
+-- the edges between first vertices, then those gates, and the fixed corrections
 unfoldable pub extracted_circuit : ℕ → OpenGraph → (ℕ → ℕ) → (ℕ → ℕ) → Circuit
 extracted_circuit half g next layer = record {
   names = map (λ v. unwrap_or (slice_get g.names v) []) (first_vertices g next);
@@ -89,5 +100,6 @@ extracted_circuit half g next layer = record {
   gates =
       map (λ e. cz_gate g next e.one e.other)
       (filter (λ e. is_first g next e.one && is_first g next e.other) g.edges)
-      ++ extracted_gates g next half [] (measuring_order g layer (depth_of g layer));
+      ++ (extracted_gates g next half [] (measuring_order g layer (depth_of g layer))
+      ++ fixed_gates half g next);
 }

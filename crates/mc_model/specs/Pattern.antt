@@ -1,5 +1,5 @@
 -- Circuits and measurement patterns, as lists of gates and of commands.
-use Rattle.std.specs.Prelude.{ℕ, List, length}
+use Rattle.std.specs.Prelude.{ℕ, Bool, false, ◌||◌, List, length}
 use Rattle.mc_model.specs.Names.{Name}
 use Rattle.mc_model.specs.Signals.{Signal}
 
@@ -11,6 +11,14 @@ pub data Command : Type 0 where
   Meas : ℕ → ℕ → Signal → Signal → Command
   FixX : ℕ → Signal → Command
   FixZ : ℕ → Signal → Command
+
+-- a signal of the command has the constant
+abbrev pub has_constant : Command → Bool
+has_constant (Prep q) = false
+has_constant (Ent q r) = false
+has_constant (Meas q a s t) = s.constant || t.constant
+has_constant (FixX q s) = s.constant
+has_constant (FixZ q s) = s.constant
 
 -- the inputs are the first of the qubits; the commands stand in order of execution
 pub record Pattern : Type 0 where

@@ -20,6 +20,11 @@ turn ops (suc k) x = ops.rotate (turn ops k x)
 abbrev pub sign : {E : Type 0} → PhaseOps E → Bool → E → E
 sign ops b x = cond b (ops.neg x) x
 
+-- the element times `2 ^ m`
+unfoldable pub doubled : {E : Type 0} → PhaseOps E → ℕ → E → E
+doubled ops zero x = x
+doubled ops (suc m) x = ops.add (doubled ops m x) (doubled ops m x)
+
 -- the angle that undoes `a`, in steps modulo a whole turn of `2 * half`
 unfoldable pub negated : ℕ → ℕ → ℕ
 negated half a = (2 * half - a % (2 * half)) % (2 * half)

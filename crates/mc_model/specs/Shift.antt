@@ -1,6 +1,6 @@
 -- Signal shifting: a pattern without second signals, which does at changed outcomes what the
 -- pattern did.
-use Rattle.std.specs.Prelude.{◌≡◌, ℕ, cond, nat_eq, List, [], ◌∷◌, ⊤, false}
+use Rattle.std.specs.Prelude.{◌≡◌, ℕ, cond, nat_eq, List, [], ◌∷◌, ◌++◌, ⊤, false}
 use Rattle.mc_model.specs.Bits.{◌⊻◌, Bits}
 use Rattle.mc_model.specs.Signals.{Signal, value, no_signal, IsRising}
 use Rattle.mc_model.specs.Pattern.{Command, Prep, Ent, Meas, FixX, FixZ, Pattern}
@@ -51,3 +51,8 @@ pub record IsShiftedForm (p q : Pattern) : Type 0 where
   pub inputs : q.inputs ≡ p.inputs
   pub outputs : q.outputs ≡ p.outputs
   pub commands : IsShifted (change_of p.commands) p.commands q.commands
+
+-- no measurement of the list has a second signal
+abbrev pub HasNoSecondSignals : List Command → Type 0
+HasNoSecondSignals cs = (before : List Command) (q a : ℕ) (s t : Signal) (behind : List Command) →
+    cs ≡ before ++ (Meas q a s t ∷ behind) → t ≡ no_signal

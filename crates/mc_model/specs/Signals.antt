@@ -17,6 +17,10 @@ no_signal = record { members = []; constant = false }
 abbrev pub signal_of : ℕ → Signal
 signal_of q = record { members = q ∷ []; constant = false }
 
+-- the constant alone, 1 whatever the outcomes
+abbrev pub one_signal : Signal
+one_signal = record { members = []; constant = true }
+
 abbrev pub is_nil : List ℕ → Bool
 is_nil [] = true
 is_nil (q ∷ qs) = false

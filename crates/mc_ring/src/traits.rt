@@ -1,6 +1,6 @@
 //! Rings, and rings with a root of -1.
 
-ghost use Rattle.std.specs.Prelude.{◌≡◌, ℕ, ℤ, ◌↔◌, List, IsTrue};
+ghost use Rattle.std.specs.Prelude.{◌≡◌, ℕ, ◌+◌, ◌^◌, ◌≤◌, ℤ, ◌↔◌, List, IsTrue};
 ghost use Rattle.mc_ring.specs.Laws.{IsExact, RingLaws, TurnLaws, HeightLaws};
 
 /// A commutative ring. A value is seen as a list of whole numbers. The exact sum, negative and product are those of
@@ -78,6 +78,17 @@ pub trait PhaseRing: Ring {
     /// The product with `w` to the power `k`, which stays in the range.
     fn turn(&self, k: u32) -> Self
         ensures { Self.seen result ≡ turned_by k (Self.seen self.now) };
+
+    /// The negative, which stays in the range.
+    fn negative(&self) -> Self
+        ensures { Self.seen result ≡ Self.negative_of (Self.seen self.now) };
+
+    /// The sum with `w^k` times the other one, and the difference, where their heights keep both in the range.
+    fn cross(&self, other: &Self, k: u32) -> (Self, Self)
+        requires { height_of (Self.seen self.now) + height_of (Self.seen other.now) ≤ 2 ^ 60 }
+        ensures sum { Self.seen result.0 ≡ Self.sum_of (Self.seen self.now) (turned_by k (Self.seen other.now)) }
+        ensures difference { Self.seen result.1 ≡
+            Self.sum_of (Self.seen self.now) (Self.negative_of (turned_by k (Self.seen other.now))) };
 
     /// Turns are products with powers of `w`, and half a turn is the negative.
     ghost turn_laws: { Self.IsPermitted →

@@ -18,28 +18,13 @@ use Rattle.mc_run.specs.Exact.{Exact, phases}
 use Rattle.mc_run.specs.Settings.{without}
 use Rattle.mc_run.specs.Sources.{IsStepped, Holds}
 use Rattle.mc_run.specs.Gates.{IsLiving, command_step, live_behind, IsReady, AreLow, IsLowBefore}
+use Rattle.mc_run.specs.Branches.{CommandsLeft, Ignores}
 use Rattle.mc_run.proofs.Turns.{Obeys}
 use Rattle.mc_run.proofs.Digits.{length-without}
-use Rattle.mc_run.proofs.Steps.{Ignores, prep_holds, ent_holds, x_holds, z_holds, meas_holds}
+use Rattle.mc_run.proofs.Steps.{prep_holds, ent_holds, x_holds, z_holds, meas_holds}
 use Rattle.mc_run.proofs.GatesLeft.{member_below}
 use Rattle.mc_run.proofs.Starts.{length-below, start_ignores}
 use Rattle.mc_run.proofs.Ignoring.{grows, fits_miss, act_ignores}
-
--- the commands that are left take the amplitudes to those at the end; qubits that are there and are
--- not measured are live, and what is not there is ignored
-pub record CommandsLeft (ring : Exact) (Is : List ℤ → Type 0) (o : Bits) (inputs : ℕ)
-    (all : List Command) (end : Amps (List ℤ)) (left : List Command) (live : List ℕ)
-    (v : List (List ℤ)) : Type 0 where
-  pub done : List Command
-  pub split : all ≡ done ++ left
-  pub amps : Amps (List ℤ)
-  pub height : ℕ
-  pub holds : Holds ring Is live height amps v
-  pub rest : after (phases ring) o left amps ≡ end
-  pub count : length live + height ≡ inputs + prepared done
-  pub living : (q : ℕ) → q < inputs + prepared done → measured done q ≡ false → IsLiving live q
-  pub there : (q : ℕ) → measured done q ≡ true → q < inputs + prepared done
-  pub ignores : (q : ℕ) → inputs + prepared done ≤ q → Ignores amps q
 
 or_right : (a : Bool) → a || true ≡ true
 or_right true = refl

@@ -8,7 +8,7 @@ use Rattle.mc_model.specs.Amplitude.{Amps, act}
 use Rattle.mc_model.specs.Alike.{Misses}
 use Rattle.mc_model.specs.Valid.{FitsBehind, prepared}
 use Rattle.mc_model.proofs.BitLemmas.{replaced_other, replaced_swap}
-use Rattle.mc_run.proofs.Steps.{Ignores}
+use Rattle.mc_run.specs.Branches.{Ignores}
 
 -- how many qubits a command prepares
 abbrev pub grows : Command → ℕ

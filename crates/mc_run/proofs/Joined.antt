@@ -126,3 +126,15 @@ module _ (half : ℕ) where
       entry_spelled live p.outputs height y _ v holds all
       ∙ sym (commands_shown o p.commands _ _ (start_shown p.inputs (bits_of (spelled p.inputs b)))
       (placed p.outputs (spelled (length p.outputs) y)))
+
+  -- the amplitude of a branch
+  pub branch_value : (p : Pattern) (o : Bits) (y b : ℕ) →
+      after (phases (cyclo half)) o p.commands
+      (start (phases (cyclo half)) p.inputs (bits_of (spelled p.inputs b)))
+      (placed p.outputs (spelled (length p.outputs) y))
+      ≡ (branch_map (ring half) p o (spelled (length p.outputs) y)
+      (bits_of (spelled p.inputs b))).coefficients
+  unfolding branch_map amp
+  branch_value p o y b =
+      sym (commands_shown o p.commands _ _ (start_shown p.inputs (bits_of (spelled p.inputs b)))
+      (placed p.outputs (spelled (length p.outputs) y)))

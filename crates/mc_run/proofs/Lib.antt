@@ -1,5 +1,8 @@
 pub mod Digits
 pub mod Places
+pub mod Pairs
+pub mod Passes
+pub mod Written
 pub mod Turns
 pub mod Steps
 pub mod Vectors
@@ -13,3 +16,5 @@ pub mod Counting
 pub mod Ignoring
 pub mod CommandsLeft
 pub mod Order
+pub mod Branching
+pub mod AllColumns

@@ -35,7 +35,7 @@ module _ (inputs : ℕ) (all : List Command) (valid : IsValid inputs all) where
       all ≡ before ++ (c ∷ left) → all ≡ (before ++ (c ∷ [])) ++ left
   split_on before c left e = e ∙ sym (append_assoc before (c ∷ []) left)
 
-  order_none : (left before : List Command) (q : ℕ) → all ≡ before ++ left →
+  pub order_none : (left before : List Command) (q : ℕ) → all ≡ before ++ left →
       measured before q ≡ true → count_by (nat_eq q) (measured_order left) ≡ 0
   unfolding measured
   order_none [] before q e m = refl

@@ -16,12 +16,9 @@ use Rattle.mc_run.specs.Sources.{entry, taken, source, IsStepped, Holds, half_wh
 use Rattle.mc_run.specs.declared.step.Step.{Step}
 use Rattle.mc_run.specs.declared.source.Source.TheVariants.{Nought, Turned, Sum}
 use Rattle.mc_run.specs.declared.step.Step.TheVariants.{Input, Prep, Ent, X, Z, J, Meas}
+use Rattle.mc_run.specs.Branches.{Ignores}
 use Rattle.mc_run.proofs.Digits.{digit_of, setting_with, setting_more, with_below, more_below}
 use Rattle.mc_run.proofs.Turns.{Obeys, sign_steps, sign_turn_steps, turn_sign_steps}
-
--- the amplitudes are the same whatever the bit of a qubit
-abbrev pub Ignores : {E : Type 0} → Amps E → ℕ → Type 0
-Ignores f q = (x : Bits) (b : Bool) → f (replaced x q b) ≡ f x
 
 module _ (ring : Exact) (Is : List ℤ → Type 0) (laws : Obeys ring Is) (live : List ℕ) (height : ℕ)
     (f : Amps (List ℤ)) (v : List (List ℤ)) (holds : Holds ring Is live height f v) where

@@ -1,13 +1,14 @@
 -- The places that a step takes from are there, and its sums stay low.
-use Rattle.std.proofs.Common.{◌≡◌, ℕ, ◌+◌, ◌^◌, ◌<◌, ◌≤◌, Bool, true, false, ℤ, List, length, sym, subst, arith}
-use Rattle.std.proofs.Math.Nat.{two-pow-succ}
+use Rattle.std.proofs.Common.{◌≡◌, ℕ, ◌+◌, ◌^◌, ◌<◌, ◌≤◌, Bool, true, false, ℤ, List, length, sym, subst, ap, ◌∙◌, arith}
+use Rattle.std.proofs.Math.Nat.{two-pow-succ, pow-suc}
 use Rattle.mc_model.specs.Bits.{Bits}
 use Rattle.mc_model.specs.Numbers.{is_member}
 use Rattle.mc_model.specs.Pattern as plain
 use Rattle.mc_run.specs.Settings.{weight, with_digit, with_more, without}
-use Rattle.mc_run.specs.Sources.{entry, source, CanTake}
+use Rattle.mc_run.specs.Sources.{entry, source, CanTake, ArePairs, IsLongFor}
 use Rattle.mc_run.specs.Gates.{gate_step, IsGateReady, AreLow, IsLowFor, IsLowBefore, command_step, live_behind, IsReady}
-use Rattle.mc_run.proofs.Digits.{with_below, more_below}
+use Rattle.mc_run.proofs.Digits.{with_below, more_below, length-without}
+use Rattle.mc_run.proofs.Pairs.{live_pairs}
 
 module _ (height : List ℤ → ℕ) (half : ℕ) (live : List ℕ) (v : List (List ℤ))
     (long : length v ≡ 2 ^ length live) where
@@ -30,6 +31,25 @@ module _ (height : List ℤ → ℕ) (half : ℕ) (live : List ℕ) (v : List (L
   gate_there (plain.J q a) ready low i h =
       both_low low _ _ (with_there q i false ready h) (with_there q i true ready h)
   gate_there (plain.CZ q r) ready low i h = omega arith
+
+  pub gate_long : (gate : plain.Gate) → IsGateReady live gate →
+      IsLongFor (gate_step live gate) (length v) (2 ^ length live)
+  gate_long (plain.J q a) ready =
+      (long, subst (λ n. ArePairs n (weight live q)) (sym long) (live_pairs live q ready))
+  gate_long (plain.CZ q r) ready = long
+
+  pub command_long : (o : Bits) (c : plain.Command) (n : ℕ) → IsReady live n c →
+      IsLongFor (command_step half live o c) (length v) (2 ^ length (live_behind live c))
+  command_long o (plain.Prep q) n ready = tt
+  command_long o (plain.Ent q r) n ready = long
+  command_long o (plain.FixX q s) n ready =
+      (long, subst (λ n. ArePairs n (weight live q)) (sym long) (live_pairs live q ready.0))
+  command_long o (plain.FixZ q s) n ready = long
+  command_long o (plain.Meas q a s t) n ready = (
+    long ∙ ap (λ n. 2 ^ n) (sym (length-without live q ready.0))
+        ∙ pow-suc 2 (length (without live q)) ∙ omega arith,
+    subst (λ n. ArePairs n (weight live q)) (sym long) (live_pairs live q ready.0),
+  )
 
   pub command_there : (o : Bits) (c : plain.Command) (n : ℕ) → IsReady live n c →
       IsLowBefore height v c → (i : ℕ) → i < 2 ^ length (live_behind live c) →

@@ -5,3 +5,4 @@ pub mod Gates
 pub mod Limits
 pub mod Tables
 pub mod Reports
+pub mod Branches

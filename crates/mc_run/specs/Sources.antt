@@ -1,5 +1,5 @@
 -- Vectors of entries, and where the entries behind a step come from.
-use Rattle.std.specs.Prelude.{◌≡◌, ℕ, ◌+◌, ◌/◌, ◌^◌, ◌<◌, ◌≤◌, Bool, false, true, cond, not, ◌&&◌, ℤ, List, [], length, slice_index_or, ⊤}
+use Rattle.std.specs.Prelude.{◌≡◌, ℕ, ◌+◌, ◌*◌, ◌/◌, ◌^◌, ◌<◌, ◌≤◌, Bool, false, true, cond, not, ◌&&◌, ℤ, List, [], length, slice_index_or, ⊤}
 use Rattle.mc_model.specs.Bits.{◌⊻◌}
 use Rattle.mc_model.specs.Amplitude.{Amps}
 use Rattle.mc_run.specs.Exact.{Exact}
@@ -42,6 +42,20 @@ IsSmall (X w acts) = IsSmallWeight w
 IsSmall (Z w acts) = IsSmallWeight w
 IsSmall (J w k) = IsSmallWeight w × (k ≤ 2 ^ 16)
 IsSmall (Meas w k) = IsSmallWeight w × (k ≤ 2 ^ 16)
+
+-- so many entries are pairs that a digit of that weight tells apart
+abbrev pub ArePairs : ℕ → ℕ → Type 0
+ArePairs n w = (pairs : ℕ) × (n ≡ pairs * (2 * w))
+
+-- a vector of `n` entries is as long as the step asks for, of which `count` are left
+abbrev pub IsLongFor : Step → ℕ → ℕ → Type 0
+IsLongFor (Input b) n count = ⊤
+IsLongFor Prep n count = ⊤
+IsLongFor (Ent v w) n count = n ≡ count
+IsLongFor (X w acts) n count = (n ≡ count) × ArePairs n w
+IsLongFor (Z w acts) n count = n ≡ count
+IsLongFor (J w k) n count = (n ≡ count) × ArePairs n w
+IsLongFor (Meas w k) n count = (n ≡ 2 * count) × ArePairs n w
 
 -- the step adds a qubit
 abbrev pub IsGrowth : Step → Type 0

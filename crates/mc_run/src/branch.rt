@@ -40,7 +40,7 @@ fn halves_of<const H: usize>(command: &Command<H>) -> u32
 }
 
 /// How many commands prepare or measure.
-fn count_halves<const H: usize>(commands: &[Command<H>]) -> u32
+pub(crate) fn count_halves<const H: usize>(commands: &[Command<H>]) -> u32
     requires { length commands.now ≤ 262_144 }
     ensures { result ≡ halvings (map plain_command commands.now) }
 {

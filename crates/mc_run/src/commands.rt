@@ -111,7 +111,7 @@ fn live_behind<const H: usize>(live: Vec<u16>, command: &Command<H>) -> Result<V
 }
 
 /// The state behind a command.
-fn commanded<R: PhaseRing, const H: usize>(
+pub(crate) fn commanded<R: PhaseRing, const H: usize>(
     alloc: Global,
     state: State<R>,
     command: &Command<H>,
@@ -134,7 +134,7 @@ fn commanded<R: PhaseRing, const H: usize>(
 {
     let step = step_of(&state.live, command, outcomes);
     let live = live_behind(state.live, command)?;
-    advanced(alloc, live, &state.entries, step)
+    advanced(alloc, live, state.entries, step)
 }
 
 /// The state behind all commands, at these outcomes.

@@ -58,7 +58,7 @@ fn gated<R: PhaseRing, const H: usize>(
         (map R.seen state.entries.items) (map R.seen next.entries.items)) }
 {
     let step = step_of(&state.live, gate);
-    advanced(alloc, state.live, &state.entries, step)
+    advanced(alloc, state.live, state.entries, step)
 }
 
 /// The state of inputs with the other wires prepared.

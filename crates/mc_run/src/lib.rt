@@ -7,7 +7,6 @@ mod column;
 mod commands;
 mod gates;
 mod limit;
-mod outcomes;
 mod place;
 mod report;
 mod source;
@@ -16,6 +15,7 @@ mod step;
 mod table;
 #[cfg(test)]
 mod tests;
+mod tree;
 mod vector;
 mod whole;
 

@@ -7,11 +7,11 @@ ghost use Rattle.mc_run.specs.Limits.{all_limit};
 ghost use Rattle.mc_run.specs.Tables.{TableValue};
 ghost use Rattle.mc_run.specs.Reports.{IsLeastPhase, IsReportOf};
 
-use crate::branch::{MOST_COMMANDS, branch_table};
+use crate::branch::MOST_COMMANDS;
 use crate::limit::{RunEnd, passed};
-use crate::outcomes::{measured_order, outcomes_of};
 use crate::place::two_to;
 use crate::table::Table;
+use crate::tree::{all_columns, table_of};
 use mc_cyclo::phase_between;
 use mc_model::Memory;
 use mc_pattern::Pattern;
@@ -97,12 +97,10 @@ fn all_branches<const H: usize>(alloc: Global, pattern: &Pattern<H>) -> Result<R
     requires few { length pattern.now.names + pattern.now.inputs + measured_count pattern.now ≤ 16 }
     ensures { IfOk result (λ report. IsReportOf H pattern.now report) }
 {
-    let count = pattern.names().len();
-    let order = measured_order(alloc, pattern.commands())?;
+    let all = all_columns(alloc, pattern)?;
     let mut tables = Vec::new(alloc);
-    'branches: for i in 0..two_to(order.len()) {
-        let outcomes = outcomes_of(alloc, &order, count, i)?;
-        let table = branch_table(alloc, pattern, &outcomes)?;
+    'branches: for i in 0..two_to(pattern.measured() as usize) {
+        let table = table_of(alloc, pattern, &all, i)?;
         let Ok(()) = tables.push(table) else {
             return Err(Memory);
         };

@@ -6,11 +6,11 @@ ghost use Rattle.mc_model.specs.Amplitude.{start};
 ghost use Rattle.mc_signal.specs.Outcomes.{bits_of};
 ghost use Rattle.mc_run.specs.Exact.{exact, phases};
 ghost use Rattle.mc_run.specs.Settings.{spelled};
-ghost use Rattle.mc_run.specs.Sources.{entry, source, CanTake, IsStepped, IsSmall, IsGrowth, Holds};
+ghost use Rattle.mc_run.specs.Sources.{entry, source, CanTake, IsLongFor, IsStepped, IsSmall, IsGrowth, Holds};
 
 use crate::place::{digit, two_to};
 use crate::step::Step;
-use crate::vector::stepped;
+use crate::vector::behind;
 use mc_model::Memory;
 use mc_ring::{PhaseRing, Ring};
 use std::alloc::Global;
@@ -26,23 +26,25 @@ pub(crate) struct State<R> {
 pub(crate) fn advanced<R: PhaseRing>(
     alloc: Global,
     live: Vec<u16>,
-    entries: &[R],
+    entries: Vec<R>,
     step: Step,
 ) -> Result<State<R>, Memory>
     requires permitted { R.IsPermitted }
     requires half { R.HALF ≤ 2 ^ 16 }
     requires small { IsSmall step }
     requires few { length live.items ≤ 32 }
+    requires few_before { length entries.items ≤ 2 ^ 32 }
+    requires fits { IsLongFor step (length entries.items) (2 ^ length live.items) }
     requires there { (i : ℕ) → i < 2 ^ length live.items →
-        CanTake R.height_of (map R.seen entries.now) (source R.HALF step i) }
+        CanTake R.height_of (map R.seen entries.items) (source R.HALF step i) }
     ensures live { IfOk result (λ state. state.live.items ≡ live.items) }
     ensures long { IfOk result (λ state. length state.entries.items ≡ 2 ^ length live.items) }
     ensures stepped { IfOk result (λ state. IsStepped
         (exact R.nought R.unit R.sum_of R.negative_of R.turned_by R.HALF R.height_of) R.IsElement step
-        (map R.seen entries.now) (map R.seen state.entries.items)) }
+        (map R.seen entries.items) (map R.seen state.entries.items)) }
 {
     let count = two_to(live.len());
-    match stepped(alloc, entries, step, count) {
+    match behind(alloc, entries, step, count) {
         Ok(entries) => Ok(State { live, entries }),
         Err(_) => Err(Memory),
     }
@@ -68,7 +70,7 @@ pub(crate) fn grown<R: PhaseRing>(
 {
     let mut live = state.live;
     match live.insert(0, q) {
-        Ok(()) => advanced(alloc, live, &state.entries, step),
+        Ok(()) => advanced(alloc, live, state.entries, step),
         Err(_) => Err(Memory),
     }
 }

@@ -7,3 +7,4 @@ pub mod Halfway
 pub mod Places
 pub mod PutIn
 pub mod ShiftedStandard
+pub mod Unshifted

@@ -1,12 +1,12 @@
 -- The laws of signal shifting, over the amplitude ring with any `half` above 0.
-use Rattle.std.specs.Prelude.{◌≡◌, ℕ, ◌<◌, Bool, List, ◌∷◌, ◌++◌}
+use Rattle.std.specs.Prelude.{◌≡◌, ℕ, ◌<◌, Bool, List, All}
 use Rattle.mc_model.specs.Bits.{Bits}
 use Rattle.mc_model.specs.Ring.{ring}
-use Rattle.mc_model.specs.Signals.{Signal, no_signal}
-use Rattle.mc_model.specs.Pattern.{Command, Meas, Pattern}
+use Rattle.mc_model.specs.Signals.{no_signal}
+use Rattle.mc_model.specs.Pattern.{Pattern}
 use Rattle.mc_model.specs.Amplitude.{branch_map, pattern_scale}
 use Rattle.mc_model.specs.Valid.{IsValidPattern}
-use Rattle.mc_model.specs.Shift.{new_outcomes, change_of, IsShiftedForm}
+use Rattle.mc_model.specs.Shift.{new_outcomes, change_of, IsShiftedForm, HasNoSecondSignals}
 
 -- the branch map at outcomes `o` is that of the shifted form at the new outcomes
 abbrev pub ShiftKeepsMaps : Type 0
@@ -35,11 +35,6 @@ pub record HasOne (P : Pattern → Type 0) : Type 0 where
 abbrev pub HasOneShiftedForm : Type 0
 HasOneShiftedForm = (p : Pattern) → IsValidPattern p → HasOne (IsShiftedForm p)
 
--- no measurement of the list has a second signal
-abbrev pub HasNoSecondSignals : List Command → Type 0
-HasNoSecondSignals cs = (before : List Command) (q a : ℕ) (s t : Signal) (behind : List Command) →
-    cs ≡ before ++ (Meas q a s t ∷ behind) → t ≡ no_signal
-
 -- `q` is a valid pattern without second signals, of the scale of `p`
 pub record IsValidShiftedForm (p q : Pattern) : Type 0 where
   pub valid : IsValidPattern q
@@ -50,3 +45,15 @@ pub record IsValidShiftedForm (p q : Pattern) : Type 0 where
 abbrev pub ShiftedFormsAreValid : Type 0
 ShiftedFormsAreValid = (p q : Pattern) → IsValidPattern p → IsShiftedForm p q →
     IsValidShiftedForm p q
+
+-- the pattern is its own shifted form, each row of its change is empty, and no outcome changes
+pub record IsUnshifted (p : Pattern) : Type 0 where
+  pub own : IsShiftedForm p p
+  pub only : (q : Pattern) → IsShiftedForm p q → q ≡ p
+  pub empty : All (λ row. row.signal ≡ no_signal) (change_of p.commands)
+  pub same_outcomes : (o : Bits) → new_outcomes (change_of p.commands) o ≡ o
+
+-- a valid pattern without second signals is not shifted
+abbrev pub NoSecondSignalsNoShift : Type 0
+NoSecondSignalsNoShift = (p : Pattern) → IsValidPattern p → HasNoSecondSignals p.commands →
+    IsUnshifted p

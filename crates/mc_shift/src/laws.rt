@@ -4,7 +4,7 @@ ghost use Rattle.mc_model.specs.Pattern.{Pattern};
 ghost use Rattle.mc_model.specs.Valid.{IsValidPattern};
 ghost use Rattle.mc_model.specs.Shift.{IsShiftedForm};
 ghost use Rattle.mc_shift.specs.Shifted.{shifted_form};
-ghost use Rattle.mc_shift.specs.Laws.{HasOneShiftedForm, NewOutcomesAreABijection, ShiftKeepsMaps, ShiftedFormsAreValid};
+ghost use Rattle.mc_shift.specs.Laws.{HasOneShiftedForm, NewOutcomesAreABijection, NoSecondSignalsNoShift, ShiftKeepsMaps, ShiftedFormsAreValid};
 
 /// At the changed outcomes the shifted form of a valid pattern has the branch map of the pattern.
 pub fn shift_keeps_maps()
@@ -25,4 +25,9 @@ pub fn new_outcomes_are_a_bijection()
 /// The shifted form of a valid pattern is valid, has no second signals, and keeps the scale.
 pub fn shifted_forms_are_valid()
     ensures { ShiftedFormsAreValid }
+{}
+
+/// A valid pattern without second signals is its own shifted form, and its change is empty.
+pub fn no_second_signals_no_shift()
+    ensures { NoSecondSignalsNoShift }
 {}

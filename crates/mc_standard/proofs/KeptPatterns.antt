@@ -6,13 +6,14 @@ use mathlib.Core.Logic.{inl, inr}
 use Rattle.mc_model.specs.Phase.{PhaseOps, PhaseLaws}
 use Rattle.mc_model.specs.Bits.{Bits}
 use Rattle.mc_model.specs.Numbers.{ListsOnce}
-use Rattle.mc_model.specs.Pattern.{Command, Pattern, Prep, Ent, Meas, FixX, FixZ}
+use Rattle.mc_model.specs.Pattern.{Command, Pattern}
 use Rattle.mc_model.specs.Amplitude.{halvings}
 use Rattle.mc_model.specs.Alike.{AlikeCommands}
 use Rattle.mc_model.specs.Valid.{IsValid, IsValidPattern, measured, prepared}
 use Rattle.mc_model.specs.StandardForm.{standard_commands, standard_form}
 use Rattle.mc_model.specs.Derivation.{x_first, x_second, z_first, z_second, x_measured, z_measured, swapped, x_joined, z_joined, edges_exchanged, same_cancelled, turned_cancelled, x_behind_z, z_behind_x, turned, x_dropped, z_dropped, Rule, Rewrites, Step, Use, Derives, Rank, rank, IsLower, no_use, one_use}
 use Rattle.mc_model.proofs.ValidLemmas.{measured-append, prepared-append}
+use Rattle.mc_model.proofs.Scales.{halvings-append}
 use Rattle.mc_model.proofs.AlikeLemmas.{alike_itself, alike_on}
 use Rattle.mc_standard.specs.Improves.{IsReached}
 use Rattle.mc_standard.specs.Laws.{with_commands, IsStandardised}
@@ -26,15 +27,6 @@ pub record SameQubits (cs ds : List Command) : Type 0 where
   pub preparations : prepared cs ≡ prepared ds
   pub measurements : (k : ℕ) → measured cs k ≡ measured ds k
   pub scales : halvings cs ≡ halvings ds
-
-pub halvings-append : (cs ds : List Command) → halvings (cs ++ ds) ≡ halvings cs + halvings ds
-unfolding halvings
-halvings-append [] ds = omega arith
-halvings-append (Prep q ∷ cs) ds = let h = halvings-append cs ds in omega arith
-halvings-append (Ent q r ∷ cs) ds = halvings-append cs ds
-halvings-append (Meas q a s t ∷ cs) ds = let h = halvings-append cs ds in omega arith
-halvings-append (FixX q s ∷ cs) ds = halvings-append cs ds
-halvings-append (FixZ q s ∷ cs) ds = halvings-append cs ds
 
 or_swap : (a b : Bool) → a || b ≡ b || a
 or_swap a b = grind arith

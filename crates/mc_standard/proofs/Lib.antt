@@ -3,7 +3,6 @@ pub mod Carried
 pub mod Derives
 pub mod KeptPatterns
 pub mod Edits
-pub mod ExchangeLaws
 pub mod Frames
 pub mod InPlaceLemmas
 pub mod KeptValid
@@ -23,6 +22,7 @@ pub mod SettledEdges
 pub mod SettledForm
 pub mod Settles
 pub mod StandardAlike
+pub mod WithoutConstants
 pub mod UsesLeft
 pub mod Walks
 pub mod WrongPairs

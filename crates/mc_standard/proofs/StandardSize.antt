@@ -12,6 +12,7 @@ use Rattle.mc_model.specs.Signals.{Signals, is_empty}
 use Rattle.mc_model.specs.Pattern.{Command, Pattern, Prep, Ent, Meas, FixX, FixZ}
 use Rattle.mc_model.specs.Valid.{prepared, measured, IsValid, IsValidPattern}
 use Rattle.mc_model.specs.StandardForm.{preparations_of, is_edge, measurements_with, fix_x, fix_z, corrections_below, first_sum, second_sum, standard_commands, standard_form}
+use Rattle.mc_model.proofs.NumberLists.{length-numbers_from}
 use Rattle.mc_model.proofs.ValidLemmas.{moved_on, next_measured, none_measured, prepared-append}
 
 -- preparations
@@ -82,10 +83,6 @@ count_one m from (suc n) q above below new =
           omega arith
     ]
 
-length-numbers : (from n : ℕ) → length (numbers_from from n) ≡ n
-length-numbers from zero = refl
-length-numbers from (suc n) = ap suc (length-numbers (suc from) n)
-
 next_bound : (inputs n : ℕ) (before : List Command) (c : Command) (cs : List Command) →
     inputs + prepared (before ++ (c ∷ cs)) ≤ n →
     inputs + prepared ((before ++ (c ∷ [])) ++ cs) ≤ n
@@ -98,7 +95,7 @@ few_measures : (inputs n : ℕ) (ss ts : Signals) (before cs : List Command) →
 unfolding measurements_with measured
 few_measures inputs n ss ts before [] v h =
     let all = count_by-le-length (measured before) (numbers_from 0 n) in
-    let size = length-numbers 0 n in
+    let size = length-numbers_from 0 n in
     omega arith
 few_measures inputs n ss ts before (Prep q ∷ cs) v h =
     subst (λ (m : Bits).

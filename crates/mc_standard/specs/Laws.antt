@@ -1,9 +1,10 @@
 -- The laws of the standard form and of rewriting, over the amplitude ring with any `half` above 0.
-use Rattle.std.specs.Prelude.{◌≡◌, ◌⊎◌, ℕ, ◌<◌, List}
+use Rattle.std.specs.Prelude.{◌≡◌, ◌⊎◌, ℕ, ◌<◌, Bool, false, List}
+use Rattle.std.specs.List.{list_any}
 use Rattle.mc_model.specs.Bits.{Bits}
 use Rattle.mc_model.specs.Ring.{ring}
-use Rattle.mc_model.specs.Pattern.{Command, Pattern}
-use Rattle.mc_model.specs.Amplitude.{pattern_scale}
+use Rattle.mc_model.specs.Pattern.{Command, Pattern, has_constant}
+use Rattle.mc_model.specs.Amplitude.{zero_branch, pattern_scale}
 use Rattle.mc_model.specs.Alike.{AlikeBranches, AlikeCommands}
 use Rattle.mc_model.specs.Valid.{IsValid, IsValidPattern}
 use Rattle.mc_model.specs.StandardForm.{standard_commands, standard_form}
@@ -15,6 +16,12 @@ use Rattle.mc_standard.specs.Improves.{Improves, IsReached}
 abbrev pub StandardIsAlike : Type 0
 StandardIsAlike = (half : ℕ) → 0 < half → (p : Pattern) → IsValidPattern p → (o : Bits) →
     AlikeBranches (ring half) p o (standard_form p) o
+
+-- without constants the zero branch is the same
+abbrev pub StandardKeepsZeroBranch : Type 0
+StandardKeepsZeroBranch = (half : ℕ) → 0 < half → (p : Pattern) → IsValidPattern p →
+    list_any has_constant p.commands ≡ false → (y : List Bool) (b : Bits) →
+    zero_branch (ring half) (standard_form p) y b ≡ zero_branch (ring half) p y b
 
 -- the standard form of a pattern is valid and its own standard form, and keeps the scale
 pub record IsStandardised (p : Pattern) : Type 0 where

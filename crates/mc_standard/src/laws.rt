@@ -1,10 +1,15 @@
 //! What is proved of the standard form and of the rewriting rules (Danos, Kashefi and Panangaden 2007).
 
-ghost use Rattle.mc_standard.specs.Laws.{StandardIsAlike, StandardIsStandard, StepIsAlike, DerivationsKeepPatterns, StepsLeadToStandard};
+ghost use Rattle.mc_standard.specs.Laws.{StandardIsAlike, StandardIsStandard, StandardKeepsZeroBranch, StepIsAlike, DerivationsKeepPatterns, StepsLeadToStandard};
 
 /// At every outcome list a pattern and its standard form have branch maps that are alike, with one phase for all entries.
 pub fn standard_is_alike()
     ensures { StandardIsAlike }
+{}
+
+/// Without constants the zero branch of a pattern is that of its standard form.
+pub fn standard_keeps_zero_branch()
+    ensures { StandardKeepsZeroBranch }
 {}
 
 /// The standard form of a valid pattern is valid, its own standard form, and of the same scale.

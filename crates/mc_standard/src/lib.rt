@@ -16,8 +16,8 @@ mod standardisation;
 mod tests;
 
 pub use laws::{
-    derivations_keep_patterns, standard_is_alike, standard_is_standard, step_is_alike,
-    steps_lead_to_standard,
+    derivations_keep_patterns, standard_is_alike, standard_is_standard, standard_keeps_zero_branch,
+    step_is_alike, steps_lead_to_standard,
 };
 pub use rewriter::Rewriter;
 pub use rule::{Rule, Use};

@@ -1,23 +1,15 @@
 -- The first wires of a circuit as qubits.
-use Rattle.std.proofs.Common.{◌≡◌, ℕ, zero, suc, ◌+◌, ◌-◌, ◌≤◌, List, [], ◌∷◌, ◌++◌, refl, sym, ◌∙◌, ap, ap₂, arith, length, take, Some}
+use Rattle.std.proofs.Common.{◌≡◌, ℕ, zero, suc, ◌+◌, ◌-◌, ◌≤◌, List, [], ◌∷◌, ◌++◌, sym, ◌∙◌, ap, ap₂, arith, length, take, Some}
 use Rattle.std.specs.Prelude.{slice_get}
 use Rattle.std.specs.List.{IsDistinct}
 use Rattle.std.proofs.lemmas.List.{length-take-le, take_all}
 use Rattle.std.proofs.lemmas.Option.{slice_get_within}
 use Rattle.mc_model.specs.Names.{Name, name_eq}
-use Rattle.mc_model.specs.Numbers.{numbers_from}
 use Rattle.mc_model.specs.Pattern.{Command, Prep, Pattern}
 use Rattle.mc_model.specs.Translation.{preparations}
+use Rattle.mc_model.proofs.PreparationLemmas.{length-preparations}
 use Rattle.mc_pattern.specs.Patterns.{begun, IsFree}
 use Rattle.mc_translate.proofs.FreeNames.{new_name, take_next}
-
-pub number_next : (from n : ℕ) →
-    numbers_from from (suc n) ≡ numbers_from from n ++ ((from + n) ∷ [])
-number_next from zero = let e : from ≡ from + 0 = omega arith in ap (λ (q : ℕ). q ∷ []) e
-number_next from (suc n) =
-    let e : suc from + n ≡ from + suc n = omega arith in
-    ap (λ (qs : List ℕ). from ∷ qs)
-    (number_next (suc from) n ∙ ap (λ (q : ℕ). numbers_from (suc from) n ++ (q ∷ [])) e)
 
 pub preparation_next : (q n : ℕ) →
     preparations q (suc n) ≡ preparations q n ++ (Prep (q + n) ∷ [])
@@ -27,11 +19,6 @@ preparation_next q (suc n) =
     let e : suc q + n ≡ q + suc n = omega arith in
     ap (λ (cs : List Command). Prep q ∷ cs)
     (preparation_next (suc q) n ∙ ap (λ (r : ℕ). preparations (suc q) n ++ (Prep r ∷ [])) e)
-
-length-preparations : (q n : ℕ) → length (preparations q n) ≡ n
-unfolding preparations
-length-preparations q zero = refl
-length-preparations q (suc n) = ap suc (length-preparations (suc q) n)
 
 -- a pattern of the first `v` wires, of which `inputs` are inputs
 abbrev pub first_wires : List Name → ℕ → ℕ → Pattern

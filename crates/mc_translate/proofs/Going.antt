@@ -14,6 +14,8 @@ use Rattle.mc_model.specs.Pattern.{Command, Prep, Ent, Meas, FixX, Gate, J, CZ, 
 use Rattle.mc_model.specs.Amplitude.{j_count}
 use Rattle.mc_model.specs.Valid.{GatesFit}
 use Rattle.mc_model.specs.Translation.{moved, translated, last_qubits, preparations, translation}
+use Rattle.mc_model.proofs.PreparationLemmas.{length-preparations}
+use Rattle.mc_model.proofs.NumberLists.{length-numbers_from}
 use Rattle.mc_circuit.specs.Circuits.{IsCircuit}
 use Rattle.mc_pattern.specs.Patterns.{begun, with_outputs}
 use Rattle.mc_translate.specs.Qubits.{qubit_count}
@@ -146,19 +148,10 @@ going_ready half c at p (CZ v u) rest few h = record {
 }
 
 -- at the start each wire has the qubit of its own number
-length-numbers_from : (from n : ℕ) → length (numbers_from from n) ≡ n
-length-numbers_from from zero = refl
-length-numbers_from from (suc n) = ap suc (length-numbers_from (suc from) n)
-
 qubit_from : (from n v : ℕ) → v < n → get_or (numbers_from from n) v 0 ≡ from + v
 qubit_from from zero v lt = absurd (omega arith)
 qubit_from from (suc n) zero lt = omega arith
 qubit_from from (suc n) (suc v) lt = let h = qubit_from (suc from) n v (omega arith) in omega arith
-
-length-preparations : (q n : ℕ) → length (preparations q n) ≡ n
-unfolding preparations
-length-preparations q zero = refl
-length-preparations q (suc n) = ap suc (length-preparations (suc q) n)
 
 pub going_start : (half : ℕ) (c : Circuit) → IsCircuit half c →
     IsGoing half c (numbers_from 0 (wires c))

@@ -6,3 +6,6 @@ pub mod Going
 pub mod Outputs
 pub mod Counting
 pub mod FirstWires
+pub mod TranslationFlow
+pub mod ValidTranslation
+pub mod TranslationScale

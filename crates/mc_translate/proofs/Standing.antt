@@ -1,5 +1,5 @@
 -- Which qubit stands for each wire, from gate to gate.
-use Rattle.std.proofs.Common.{◌≡◌, ℕ, zero, suc, ◌+◌, ◌-◌, ◌<◌, ◌≤◌, Bool, true, false, cond, ◌||◌, List, [], ◌∷◌, ◌++◌, refl, sym, ◌∙◌, ap, arith}
+use Rattle.std.proofs.Common.{◌≡◌, ℕ, suc, ◌+◌, ◌-◌, ◌<◌, ◌≤◌, Bool, true, false, cond, ◌||◌, List, [], ◌∷◌, ◌++◌, refl, sym, ◌∙◌, ap, arith}
 use Rattle.std.proofs.lemmas.Bool.{eq-eqb, ne_eqb, cases_eq, true≢false}
 use mathlib.Core.Logic.{inl, inr}
 use mathlib.Core.Path.{subst}
@@ -9,6 +9,7 @@ use Rattle.mc_model.specs.Pattern.{Command, Prep, Ent, Meas}
 use Rattle.mc_model.specs.Valid.{prepared, measured}
 use Rattle.mc_model.specs.Translation.{moved, preparations}
 use Rattle.mc_model.proofs.BitLemmas.{replaced_same, replaced_other}
+use Rattle.mc_model.proofs.PreparationLemmas.{prepared-preparations, measured-preparations}
 use Rattle.mc_model.proofs.ValidLemmas.{measured-append, prepared-append}
 use Rattle.mc_translate.specs.Steps.{j_commands, StandApart, IsStanding}
 
@@ -59,17 +60,6 @@ measured-j cs half q next a k =
     or_true : (b : Bool) → b || (true || false) ≡ true
     or_true true = refl
     or_true false = refl
-
--- the preparations of the wires that are no inputs
-prepared-preparations : (q n : ℕ) → prepared (preparations q n) ≡ n
-unfolding prepared preparations
-prepared-preparations q zero = refl
-prepared-preparations q (suc n) = ap suc (prepared-preparations (suc q) n)
-
-measured-preparations : (q n k : ℕ) → measured (preparations q n) k ≡ false
-unfolding measured preparations
-measured-preparations q zero k = refl
-measured-preparations q (suc n) k = measured-preparations (suc q) n k
 
 pub moved_same : (at : ℕ → ℕ) (v r : ℕ) → moved at v r v ≡ r
 moved_same at v r = ap (λ (t : Bool). cond t r (at v)) (eq-eqb v v refl)

@@ -1,17 +1,17 @@
 -- The amplitudes after a translated list of gates are those after the gates.
-use Rattle.std.proofs.Common.{◌≡◌, ℕ, zero, suc, ◌+◌, ◌<◌, Bool, true, false, cond, ◌&&◌, ◌-◌, map, List, [], ◌∷◌, not, refl, sym, ◌∙◌, ap, ap₂, arith}
+use Rattle.std.proofs.Common.{◌≡◌, ℕ, suc, ◌+◌, ◌<◌, Bool, true, false, ◌&&◌, ◌-◌, map, List, [], ◌∷◌, refl, sym, ◌∙◌, ap, ap₂, arith}
 use Rattle.std.proofs.lemmas.Bool.{cases_eq}
 use mathlib.Core.Logic.{inl, inr}
 use Rattle.mc_model.specs.Phase.{PhaseOps, PhaseLaws, turn, sign, negated, measured_angle}
 use Rattle.mc_model.specs.Bits.{◌⊻◌, Bits, replaced, parity}
 use Rattle.mc_model.specs.Signals.{value, no_signal, signal_of}
 use Rattle.mc_model.specs.Pattern.{Command, Prep, Ent, Meas, FixX, Gate, J, CZ, Circuit, wires}
-use Rattle.mc_model.specs.Amplitude.{Amps, act, after, act_gate, after_gates, start, agrees, placed, amp, branch_map, circuit_table}
+use Rattle.mc_model.specs.Amplitude.{Amps, act, after, act_gate, after_gates, start, placed, amp, branch_map, circuit_table}
 use Rattle.mc_model.specs.Translation.{moved, translated, last_qubits, preparations, translation}
 use Rattle.mc_translate.specs.Steps.{StandApart}
 use Rattle.mc_translate.proofs.Standing.{moved_same, moved_other, moved_apart, numbers_apart}
 use Rattle.mc_model.specs.Valid.{GatesFit, IsValidCircuit}
-use Rattle.mc_model.proofs.AmplitudeLemmas.{after-append, after-preparations}
+use Rattle.mc_model.proofs.AmplitudeLemmas.{after-append, after-preparations, start_same}
 use Rattle.std.specs.List.{AllByRecursion}
 use Rattle.std.proofs.lemmas.List.Elements.{recursion_from_All}
 use Rattle.mc_model.proofs.PhaseLemmas.{turn_back_twice, sign-twice, sign-turn}
@@ -45,13 +45,6 @@ placed_through wires at st (q ∷ qs) (y ∷ ys) fit v h = elim (cases_eq v q) [
       replaced_other (placed (map at qs) ys) (at q) y (at v) (λ e. ne (st.apart v q h fit.0 e))
       ∙ placed_through wires at st qs ys fit.1 v h ∙ sym (replaced_other (placed qs ys) q y v ne)
 ]
-
-agrees_same : (b x y : Bits) (n : ℕ) → ((v : ℕ) → v < n → x v ≡ y v) → agrees n b x ≡ agrees n b y
-agrees_same b x y zero agree = refl
-agrees_same b x y (suc n) agree =
-    ap₂ (λ (s t : Bool). not (b n ⊻ s) && t)
-    (agree n (omega arith))
-    (agrees_same b x y n (λ v h. agree v (omega arith)))
 
 module _ {E : Type 0} (ops : PhaseOps E) (laws : PhaseLaws ops) where
   -- the two terms of a measurement, where the measured bit was put to 0 and to 1
@@ -152,12 +145,6 @@ module _ {E : Type 0} (ops : PhaseOps E) (laws : PhaseLaws ops) where
   translated_keeps o wires (CZ v u ∷ gs) at next f g fit st s =
       translated_keeps o wires gs at next _ _ fit.3 st (cz_keeps o wires at v u f g fit.0 fit.1 s)
 
-  start_same : (b x y : Bits) (n : ℕ) → ((v : ℕ) → v < n → x v ≡ y v) →
-      start ops n b x ≡ start ops n b y
-  unfolding start
-  start_same b x y n agree =
-      ap (λ (t : Bool). cond t ops.one ops.nought) (agrees_same b x y n agree)
-
   pub translation_keeps_table : (c : Circuit) → IsValidCircuit c →
       (o : Bits) (y : List Bool) (b : Bits) →
       branch_map ops (translation ops.half c) o y b ≡ circuit_table ops c y b
@@ -171,7 +158,8 @@ module _ {E : Type 0} (ops : PhaseOps E) (laws : PhaseLaws ops) where
       let begun : SameThrough n (λ v. v) prepared first = record {
         same = λ x z agree.
             ap (λ (f : Amps E). f x) (after-preparations ops laws o c.inputs (n - c.inputs) first)
-            ∙ start_same b x z c.inputs (λ v h. agree v (let k = fits.inputs in omega arith));
+            ∙ start_same ops laws b x z c.inputs (λ v h.
+            agree v (let k = fits.inputs in omega arith));
       } in
       let ended =
       translated_keeps o n c.gates (λ v. v) n prepared first fits.gates (numbers_apart n) begun in

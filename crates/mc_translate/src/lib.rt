@@ -8,5 +8,8 @@ mod tests;
 mod translation;
 mod wires;
 
-pub use laws::translation_keeps_table;
+pub use laws::{
+    translation_has_scale, translation_keeps_table, translations_are_valid,
+    translations_have_causal_flows, translations_have_flows, translations_have_no_constants,
+};
 pub use translation::{BuildEnd, translate};

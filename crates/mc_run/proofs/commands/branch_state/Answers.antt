@@ -10,7 +10,8 @@ use Rattle.mc_run.specs.Exact.{Exact, exact, phases}
 use Rattle.mc_run.specs.Settings.{spelled}
 use Rattle.mc_run.specs.Sources.{Holds}
 use Rattle.mc_run.proofs.Turns.{obeys}
-use Rattle.mc_run.proofs.CommandsLeft.{CommandsLeft, command_left_at, command_ready, command_low, command_next, few_live, commands_over, live_over, commands_begin, output_unmeasured}
+use Rattle.mc_run.specs.Branches.{CommandsLeft}
+use Rattle.mc_run.proofs.CommandsLeft.{command_left_at, command_ready, command_low, command_next, few_live, commands_over, live_over, commands_begin, output_unmeasured}
 use Rattle.mc_run.proofs.commands.branch_state.Goals as goal
 
 pub commands-init : goal.commands-init

@@ -4,7 +4,7 @@ use Rattle.mc_pattern.specs.Commands.{plain_command}
 use Rattle.mc_signal.specs.Outcomes.{bits_of}
 use Rattle.mc_run.specs.Exact.{Exact, exact, phases}
 use Rattle.mc_run.specs.Settings.{spelled}
-use Rattle.mc_run.proofs.CommandsLeft.{CommandsLeft}
+use Rattle.mc_run.specs.Branches.{CommandsLeft}
 use Rattle.mc_run.proofs.commands.branch_state.Given as goal
 
 abbrev pub invariant-commands : goal.invariant-commands

@@ -4,9 +4,9 @@ use Rattle.mc_model.specs.Bits.{Bits}
 use Rattle.mc_model.specs.Pattern.{Command}
 use Rattle.mc_signal.specs.Outcomes.{bits_of}
 use Rattle.mc_pattern.specs.Commands.{plain_command}
-use Rattle.mc_run.specs.Sources.{source, CanTake}
+use Rattle.mc_run.specs.Sources.{source, CanTake, IsLongFor}
 use Rattle.mc_run.specs.Gates.{command_step}
-use Rattle.mc_run.proofs.There.{command_there}
+use Rattle.mc_run.proofs.There.{command_there, command_long}
 use Rattle.mc_run.proofs.Places.{longest, measured_live}
 use Rattle.mc_run.proofs.commands.commanded.Goals as goal
 
@@ -26,6 +26,25 @@ advanced-requires-clause-few g c =
       c.requires.few,
     )
 
+pub advanced-requires-clause-fits : goal.advanced-requires-clause-fits
+advanced-requires-clause-fits g c =
+    let live : List ℕ = c.args.state.live.items in
+    let command : Command = plain_command {h = g.row.H} c.args.command.now in
+    let o : Bits = bits_of c.args.outcomes.now in
+    let half : ℕ = g.R.PhaseRing.HALF in
+    let v : List (List ℤ) = map g.R.Ring.seen c.args.state.entries.items in
+    let n : length v ≡ length c.args.state.entries.items =
+    length-map c.args.state.entries.items g.R.Ring.seen in
+    let s : command_step half live o command ≡ c.step_of-step.result =
+    sym (c.step_of-step.ensures.step
+    ∙ ap₂ (λ k l. command_step k l o command) (sym c.requires.steps) c.deref.ensures.value) in
+    subst (λ t. IsLongFor t (length c.args.state.entries.items) (2 ^ length c.in_ok-live.live.items)) s
+    (subst (λ m. IsLongFor (command_step half live o command) m (2 ^ length c.in_ok-live.live.items)) n
+    (subst (λ l. IsLongFor (command_step half live o command) (length v) (2 ^ length l))
+    (sym c.in_ok-live.ensures)
+    (command_long g.R.PhaseRing.height_of half live v (n ∙ c.requires.long) o command
+    (length c.args.outcomes.now) c.requires.ready)))
+
 pub advanced-requires-clause-there : goal.advanced-requires-clause-there
 advanced-requires-clause-there g c = λ i h.
     let seen = g.R.Ring.seen in
@@ -34,13 +53,11 @@ advanced-requires-clause-there g c = λ i h.
     let o : Bits = bits_of c.args.outcomes.now in
     let half : ℕ = g.R.PhaseRing.HALF in
     let v : List (List ℤ) = map seen c.args.state.entries.items in
-    let e : v ≡ map seen c.deref-2.result.now = ap (map seen) (sym c.deref-2.ensures.value) in
     let n : length v ≡ length c.args.state.entries.items = length-map c.args.state.entries.items seen in
     let s : command_step half live o command ≡ c.step_of-step.result =
     sym (c.step_of-step.ensures.step
     ∙ ap₂ (λ k l. command_step k l o command) (sym c.requires.steps) c.deref.ensures.value) in
-    subst (λ t. CanTake g.R.PhaseRing.height_of (map seen c.deref-2.result.now) (source half t i)) s
-    (subst (λ w. CanTake g.R.PhaseRing.height_of w (source half (command_step half live o command) i)) e
+    subst (λ t. CanTake g.R.PhaseRing.height_of v (source half t i)) s
     (command_there g.R.PhaseRing.height_of half live v (n ∙ c.requires.long) o command
     (length c.args.outcomes.now) c.requires.ready c.requires.low i
-    (subst (λ l. i < 2 ^ length l) c.in_ok-live.ensures h)))
+    (subst (λ l. i < 2 ^ length l) c.in_ok-live.ensures h))

@@ -1,5 +1,5 @@
 use Rattle.std.proofs.Common.{refl, ◌∙◌, ap, arith, suc, ◌+◌, ◌≡◌, ◌∷◌, ◌++◌, [], List, ℕ}
-use Rattle.mc_translate.proofs.FirstWires.{number_next}
+use Rattle.mc_model.proofs.NumberLists.{numbers_from-last}
 use Rattle.mc_translate.proofs.wires.in_order.Goals as goal
 
 pub numbers-preserved : goal.numbers-preserved
@@ -9,4 +9,4 @@ numbers-preserved c =
     let here : 0 + n ≡ n = omega arith in
     c.in-Ok.ensures.items
     ∙ ap (λ (qs : List ℕ). qs ++ (n ∷ [])) c.numbers.invariant
-    ∙ rw (one, number_next 0 n, here) refl
+    ∙ rw (one, numbers_from-last 0 n, here) refl

@@ -1,0 +1,10 @@
+use Rattle.std.proofs.Common.{◌≡◌, map}
+use Rattle.mc_model.specs.Numbers.{numbers_from}
+use Rattle.mc_model.specs.Made.{last_before}
+use Rattle.mc_extract.specs.Chains.{number_at}
+use Rattle.mc_extract.proofs.wiring.all_before.Given as goal
+
+abbrev pub invariant-vertices : goal.invariant-vertices
+invariant-vertices g l =
+    l.before.items
+    ≡ map (last_before (g.G.Adjacency.graph l.g) (number_at l.next)) (numbers_from 0 l.v)

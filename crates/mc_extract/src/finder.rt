@@ -1,0 +1,204 @@
+//! The finder of causal flows, by rounds (Mhalla and Perdrix 2008).
+
+ghost use Rattle.std.specs.Prelude.{◌≡◌, ◌<◌, ◌≤◌, ◌+◌, not, true, All, IfOk, None, find, filter, map, length, slice_index_or};
+ghost use Rattle.std.specs.List.{list_any};
+ghost use Rattle.mc_model.specs.Numbers.{numbers_from};
+ghost use Rattle.mc_model.specs.Graph.{size};
+ghost use Rattle.mc_extract.specs.Rounds.{sole, is_some_of, taken_vertex};
+ghost use Rattle.mc_extract.specs.Finder.{left_in, with_taker, all_found, IsAtEnd, IsAnswer, SameLeft};
+
+use crate::adjacency::Adjacency;
+use crate::causal::Causal;
+use crate::found::Found;
+use mc_model::Memory;
+use std::alloc::Global;
+
+fn is_left(found: &[Found], v: u16) -> bool
+    requires { v < length found.now }
+    ensures { result ≡ left_in found.now v }
+{
+    found[v as usize].left
+}
+
+/// The one of the listed vertices that is left, if there is just one.
+fn only_left(found: &[Found], row: &[u16]) -> Option<u16>
+    requires { All (λ v. v < length found.now) row.now }
+    ensures { result ≡ sole (filter (left_in found.now) row.now) }
+{
+    let mut only = None;
+    'row: for v in row {
+        if is_left(found, *v) {
+            if only.is_some() {
+                return None;
+            }
+            only = Some(*v);
+        }
+    }
+    only
+}
+
+/// The vertex that a vertex takes, if it takes one.
+fn taken_by<G: Adjacency>(g: &G, found: &[Found], w: u16) -> Option<u16>
+    requires vertex { w < size (G.graph g.now) }
+    requires all { length found.now ≡ size (G.graph g.now) }
+    ensures { result ≡ taken_vertex (G.graph g.now) (left_in found.now) w }
+{
+    if w < g.inputs() || is_left(found, w) {
+        None
+    } else {
+        only_left(found, g.neighbours(w))
+    }
+}
+
+/// The vertex that each vertex takes.
+fn all_taken<G: Adjacency>(
+    alloc: Global,
+    g: &G,
+    found: &[Found],
+) -> Result<Vec<Option<u16>>, Memory>
+    requires { length found.now ≡ size (G.graph g.now) }
+    ensures { IfOk result (λ taken. taken.items
+        ≡ map (taken_vertex (G.graph g.now) (left_in found.now)) (numbers_from 0 (size (G.graph g.now)))) }
+{
+    let mut taken = Vec::new(alloc);
+    'vertices: for w in 0..g.len() {
+        let one = taken_by(g, found, w);
+        let Ok(()) = taken.push(one) else {
+            return Err(Memory);
+        };
+    }
+    Ok(taken)
+}
+
+fn is_some_of_it(one: Option<u16>, u: u16) -> bool
+    ensures { result ≡ is_some_of one u }
+{
+    match one {
+        Some(v) => v == u,
+        None => false,
+    }
+}
+
+/// The first vertex that takes this one.
+fn taker_of(taken: &[Option<u16>], count: u16, u: u16) -> Option<u16>
+    requires { count ≡ length taken.now }
+    ensures { result
+        ≡ find (λ w. is_some_of (slice_index_or taken.now w None) u) (numbers_from 0 count) }
+{
+    'vertices: for w in 0..count {
+        if is_some_of_it(taken[w as usize], u) {
+            return Some(w);
+        }
+    }
+    None
+}
+
+/// What is found of a vertex in a round with this number.
+fn in_round(found: Found, round: u16, taker: Option<u16>) -> Found
+    ensures { result ≡ with_taker found round taker }
+{
+    if found.left {
+        Found {
+            left: taker.is_none(),
+            layer: round,
+            next: taker.unwrap_or(0),
+        }
+    } else {
+        found
+    }
+}
+
+/// What is found in one more round.
+fn one_round<G: Adjacency>(
+    alloc: Global,
+    g: &G,
+    found: &[Found],
+    rounds: u16,
+) -> Result<Vec<Found>, Memory>
+    requires found { found.now ≡ all_found (G.graph g.now) rounds }
+    requires more { rounds < size (G.graph g.now) }
+    ensures { IfOk result (λ later. later.items ≡ all_found (G.graph g.now) (rounds + 1)) }
+{
+    let taken = all_taken(alloc, g, found)?;
+    let count = g.len();
+    let mut later = Vec::new(alloc);
+    'vertices: for v in 0..count {
+        let one = in_round(found[v as usize], rounds + 1, taker_of(&taken, count, v));
+        let Ok(()) = later.push(one) else {
+            return Err(Memory);
+        };
+    }
+    Ok(later)
+}
+
+fn first_found(is_output: bool) -> Found
+    ensures left { result.left ≡ not is_output }
+    ensures layer { result.layer ≡ 0 }
+    ensures next { result.next ≡ 0 }
+{
+    Found {
+        left: !is_output,
+        layer: 0,
+        next: 0,
+    }
+}
+
+/// What is found before the first round.
+fn begun<G: Adjacency>(alloc: Global, g: &G) -> Result<Vec<Found>, Memory>
+    ensures { IfOk result (λ found. found.items ≡ all_found (G.graph g.now) 0) }
+{
+    let mut found = Vec::new(alloc);
+    'vertices: for v in 0..g.len() {
+        let one = first_found(g.is_output(v));
+        let Ok(()) = found.push(one) else {
+            return Err(Memory);
+        };
+    }
+    Ok(found)
+}
+
+/// Whether the same vertices are left.
+fn are_left_alike(found: &[Found], later: &[Found]) -> bool
+    requires { length found.now ≡ length later.now }
+    ensures { result ≡ true → SameLeft found.now later.now }
+{
+    'vertices: for v in 0..found.len() {
+        if found[v].left != later[v].left {
+            return false;
+        }
+    }
+    true
+}
+
+fn has_left(found: &[Found]) -> bool
+    ensures { result ≡ list_any (λ one. one.left) found.now }
+{
+    found.iter().any(|one| one.left)
+}
+
+/// The answer when nothing more can be taken.
+fn answer<G: Adjacency>(g: &G, found: Vec<Found>) -> Causal
+    requires { IsAtEnd (G.graph g.now) found.items }
+    ensures { IsAnswer (G.graph g.now) result }
+{
+    if has_left(&found) {
+        Causal::Stuck(found)
+    } else {
+        Causal::Flow(found)
+    }
+}
+
+/// The chosen causal flow of a graph, or where it has none its chosen stuck set.
+pub fn find_causal<G: Adjacency>(alloc: Global, g: &G) -> Result<Causal, Memory>
+    ensures { IfOk result (λ causal. IsAnswer (G.graph g.now) causal) }
+{
+    let mut found = begun(alloc, g)?;
+    'rounds: for rounds in 0..g.len() {
+        let later = one_round(alloc, g, &found, rounds)?;
+        if are_left_alike(&found, &later) {
+            return Ok(answer(g, later));
+        }
+        found = later;
+    }
+    Ok(answer(g, found))
+}
