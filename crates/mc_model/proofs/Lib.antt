@@ -19,3 +19,4 @@ pub mod NumberLists
 pub mod AnyOrder
 pub mod Scales
 pub mod FixedGates
+pub mod DepthBounds

@@ -49,7 +49,7 @@ clash : (a : Bool) → a ≡ true → a ≡ false → ⊥
 clash a e f = true≢false (sym e ∙ f)
 
 -- the edges between the set that corrects `u` and the set that refutes it are odd and even
-refuted_at : (g : OpenGraph) (B : Bits) (y : Bits) (s : Bits) (layer : ℕ → ℕ) (u : ℕ) →
+pub refuted_at : (g : OpenGraph) (B : Bits) (y : Bits) (s : Bits) (layer : ℕ → ℕ) (u : ℕ) →
     u < size g → CorrectsAt g s layer u → RefutesAt g B y u →
     ((v : ℕ) → v < size g → layer v < layer u → B v ≡ false) → ⊥
 refuted_at g B y s layer u l c r outside =

@@ -40,6 +40,13 @@ pub record IsDependenceDepth (cs : List Command) (d : ℕ) : Type 0 where
   pub reached : length chain ≡ d
   pub greatest : (qs : List ℕ) → IsChain cs qs → length qs ≤ d
 
+-- the set keeps the vertex `u` from a layer of `k` where other vertices have these layers
+pub record KeepsAbove (g : OpenGraph) (layer : ℕ → ℕ) (k u : ℕ) (y : Bits) : Type 0 where
+  pub holds : y u ≡ true
+  pub within : (v : ℕ) → v < size g → y v ≡ true → (is_output g v ≡ false) × (k ≤ layer v)
+  pub even : (w : ℕ) → w < size g → is_input g w ≡ false →
+      (is_output g w ≡ true) ⊎ (layer w < k) → odd_neighbourhood g y w ≡ false
+
 -- stated layers from 1 to `d`, and for each `k` below `d` and each vertex of a layer above `k` a
 -- set that keeps it from a layer of `k`
 pub record IsDepthBound (g : OpenGraph) (d : ℕ) (layer : ℕ → ℕ) (y : ℕ → ℕ → Bits) : Type 0 where

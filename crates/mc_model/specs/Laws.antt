@@ -1,11 +1,12 @@
 -- Laws of the definitions that several crates cite.
-use Rattle.std.specs.Prelude.{◌≡◌, ℕ, ◌*◌, ◌<◌, List, [], ◌∷◌, ◌++◌, ◌&&◌}
+use Rattle.std.specs.Prelude.{◌≡◌, ℕ, ◌*◌, ◌<◌, ◌≤◌, false, List, [], ◌∷◌, ◌++◌, ◌&&◌}
 use Rattle.mc_model.specs.Bits.{Bits, odd}
 use Rattle.mc_model.specs.Ring.{Element, ring, product, root_two, IsCommutativeRing}
 use Rattle.mc_model.specs.Pattern.{Command}
 use Rattle.mc_model.specs.Amplitude.{Amps, act, after}
-use Rattle.mc_model.specs.Graph.{OpenGraph, size, odd_neighbourhood}
-use Rattle.mc_model.specs.Flow.{IsFlow, IsCausalFlow, IsRefuter, IsStuckSet}
+use Rattle.mc_model.specs.Graph.{OpenGraph, size, is_output, odd_neighbourhood}
+use Rattle.mc_model.specs.Depth.{IsDepthBound}
+use Rattle.mc_model.specs.Flow.{IsFlow, IsCausalFlow, depth_of, IsRefuter, IsStuckSet}
 
 -- elements of `half` coefficients are a commutative ring in which `w ^ half = -1`
 abbrev pub ElementsAreARing : Type 0
@@ -38,3 +39,10 @@ RefutersExcludeFlows = (g : OpenGraph) (B : Bits) (y : ℕ → Bits) → IsRefut
 abbrev pub StuckSetsExcludeCausalFlows : Type 0
 StuckSetsExcludeCausalFlows = (g : OpenGraph) (B : Bits) → IsStuckSet g B →
     (next layer : ℕ → ℕ) → IsCausalFlow g next layer → ⊥
+
+-- in every flow each vertex has at least the layer that a bound states, and the depth is at least
+-- the bound's
+abbrev pub DepthBoundsHold : Type 0
+DepthBoundsHold = (g : OpenGraph) (d : ℕ) (stated : ℕ → ℕ) (y : ℕ → ℕ → Bits) →
+    IsDepthBound g d stated y → (sets : ℕ → Bits) (layer : ℕ → ℕ) → IsFlow g sets layer →
+    ((v : ℕ) → v < size g → is_output g v ≡ false → stated v ≤ layer v) × (d ≤ depth_of g layer)

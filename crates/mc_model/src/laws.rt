@@ -1,6 +1,6 @@
 //! Laws of the definitions, each on the contract of a function that does nothing.
 
-ghost use Rattle.mc_model.specs.Laws.{ElementsAreARing, RootSquaresToTwo, AmplitudesByLastCommand, EdgesCountTwice, RefutersExcludeFlows, StuckSetsExcludeCausalFlows};
+ghost use Rattle.mc_model.specs.Laws.{ElementsAreARing, RootSquaresToTwo, AmplitudesByLastCommand, DepthBoundsHold, EdgesCountTwice, RefutersExcludeFlows, StuckSetsExcludeCausalFlows};
 
 /// The amplitude ring is a commutative ring with `w ^ half = -1`.
 pub fn elements_are_a_ring()
@@ -30,4 +30,9 @@ pub fn refuters_exclude_flows()
 /// A stuck set excludes every causal flow (of Mhalla and Perdrix 2008).
 pub fn stuck_sets_exclude_causal_flows()
     ensures { StuckSetsExcludeCausalFlows }
+{}
+
+/// A bound of depth excludes every flow of lesser depth.
+pub fn depth_bounds_hold()
+    ensures { DepthBoundsHold }
 {}

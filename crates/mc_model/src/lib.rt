@@ -5,7 +5,7 @@ mod laws;
 mod memory;
 
 pub use laws::{
-    amplitudes_by_last_command, edges_count_twice, elements_are_a_ring, refuters_exclude_flows,
-    root_squares_to_two, stuck_sets_exclude_causal_flows,
+    amplitudes_by_last_command, depth_bounds_hold, edges_count_twice, elements_are_a_ring,
+    refuters_exclude_flows, root_squares_to_two, stuck_sets_exclude_causal_flows,
 };
 pub use memory::Memory;
