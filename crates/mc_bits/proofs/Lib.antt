@@ -1,0 +1,3 @@
+pub mod BitsOfWords
+pub mod RowsByBits
+pub mod TwoRows

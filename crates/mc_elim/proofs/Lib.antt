@@ -1,0 +1,9 @@
+pub mod AlikeBases
+pub mod BasisAnswers
+pub mod BasisGrows
+pub mod BitSums
+pub mod LeastSets
+pub mod NoMoreThanRows
+pub mod ReducedGrows
+pub mod RowsReduced
+pub mod RowsWritten

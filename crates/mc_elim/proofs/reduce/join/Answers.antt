@@ -1,0 +1,34 @@
+use Rattle.std.proofs.Common.{◌<◌, arith, subst, List, Bool, length}
+use Rattle.mc_elim.specs.Tables.{IsNextBit}
+use Rattle.mc_elim.proofs.RowsReduced.{next_vector, room_left}
+use Rattle.mc_elim.proofs.reduce.join.Goals as goal
+
+pub bounds-firsts-k : goal.bounds-firsts-k
+bounds-firsts-k g c =
+    let rows = c.args.rows in
+    let k = c.args.k in
+    let within = c.requires.within in
+    let bit = subst (λ (row : List Bool). IsNextBit row 0 rows c.in-Some.t) c.row.ensures
+    c.in-Some.ensures in
+    let room : k < rows =
+    room_left rows k c.in-Some.t c.args.firsts.now c.args.vectors.now c.reduce.new.rows
+    c.requires.apart c.requires.own c.reduce.ensures.reduced bit in
+    omega arith
+
+pub returns-in-Some-clause-vector : goal.returns-in-Some-clause-vector
+returns-in-Some-clause-vector g c = λ _.
+    let rows = c.args.rows in
+    let k = c.args.k in
+    let firsts = c.args.firsts.now in
+    let old = c.args.vectors.now in
+    let within = c.requires.within in
+    let bit = subst (λ (row : List Bool). IsNextBit row 0 rows c.in-Some.t) c.row.ensures
+    c.in-Some.ensures in
+    let room : k < rows =
+    room_left rows k c.in-Some.t firsts old c.reduce.new.rows
+    c.requires.apart c.requires.own c.reduce.ensures.reduced bit in
+    let inside : k < length firsts = omega arith in (
+      next_vector rows k c.in-Some.t firsts old c.reduce.new.rows c.clear_others.new.rows inside
+          c.reduce.ensures.reduced bit c.clear_others.ensures.cleared,
+      room,
+    )
