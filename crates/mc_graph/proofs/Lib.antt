@@ -1,3 +1,6 @@
+pub mod ListedNumbers
+pub mod Outputs
+pub mod MappedReads
 pub mod RisingEdges
 pub mod PatternGraphs
 pub mod MeasuredLists
