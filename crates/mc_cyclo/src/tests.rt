@@ -1,5 +1,6 @@
 use super::*;
-use mc_ring::{PhaseRing, Ring};
+use mc_ring::{MatEnd, Matrix, PhaseRing, Ring};
+use std::alloc::Global;
 
 /// The greatest coordinate.
 const MOST: i64 = 1 << 60;
@@ -111,4 +112,29 @@ fn phases(rt: HostRuntime) {
     assert_eq!(rt; phase_between(&c, &a), None);
     assert_eq!(rt; phase_between(&[zero], &[zero]), Some(0));
     assert_eq!(rt; phase_between::<4>(&[], &[]), Some(0));
+}
+
+/// The product of two matrices of one entry each.
+fn entry_product(alloc: Global, a: Cyclo<4>, b: Cyclo<4>) -> Result<Cyclo<4>, MatEnd> {
+    let Ok(mut left) = Matrix::zeros(alloc, 1, 1) else {
+        return Err(MatEnd::Memory);
+    };
+    let Ok(mut right) = Matrix::zeros(alloc, 1, 1) else {
+        return Err(MatEnd::Memory);
+    };
+    left.set(0, 0, a);
+    right.set(0, 0, b);
+    Ok(left.times(alloc, &right)?.at(0, 0))
+}
+
+#[test]
+fn multiplies_matrices(rt: HostRuntime) {
+    let alloc = rt.alloc();
+    let zero: Cyclo<4> = Cyclo::zero();
+    let w = of([0, 1, 0, 0]).unwrap_or(zero);
+    let cube = of([0, 0, 0, 1]).unwrap_or(zero);
+    assert_eq!(rt; entry_product(alloc, w, cube).ok(), of([-1, 0, 0, 0]));
+    let most = of([MOST, 0, 0, 0]).unwrap_or(zero);
+    let two = of([2, 0, 0, 0]).unwrap_or(zero);
+    assert_eq!(rt; entry_product(alloc, most, two), Err(MatEnd::Range));
 }

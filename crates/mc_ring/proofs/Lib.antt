@@ -1,0 +1,2 @@
+pub mod EntriesInPlace
+pub mod ProductsMade

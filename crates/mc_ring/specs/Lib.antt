@@ -1,1 +1,3 @@
+pub mod BitRing
 pub mod Laws
+pub mod Matrices
