@@ -128,15 +128,15 @@ fits_by half inputs before n (Meas q a s t) size no_prep typed e =
     let done = measured before in
     let h = kept_by inputs before n (q ∷ []) false (s.members ++ t.members) size e in (
       h.0.0,
-      record { is_set = typed.1.is_set; is_done = AllDone-left done s.members t.members h.2 },
-      record { is_set = typed.2.is_set; is_done = AllDone-right done s.members t.members h.2 },
+      record { is_set = typed.1; is_done = AllDone-left done s.members t.members h.2 },
+      record { is_set = typed.2; is_done = AllDone-right done s.members t.members h.2 },
     )
 fits_by half inputs before n (FixX q s) size no_prep typed e =
     let h = kept_by inputs before n (q ∷ []) false s.members size e in
-    (h.0.0, record { is_set = typed.is_set; is_done = h.2 })
+    (h.0.0, record { is_set = typed; is_done = h.2 })
 fits_by half inputs before n (FixZ q s) size no_prep typed e =
     let h = kept_by inputs before n (q ∷ []) false s.members size e in
-    (h.0.0, record { is_set = typed.is_set; is_done = h.2 })
+    (h.0.0, record { is_set = typed; is_done = h.2 })
 
 pub by_fits : (inputs : ℕ) (before : List Command) (n : ℕ) (c : Command) →
     n ≡ inputs + prepared before → is_prep c ≡ false → FitsBehind inputs before c →

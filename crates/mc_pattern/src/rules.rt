@@ -5,7 +5,7 @@ ghost use Rattle.std.specs.List.{list_any};
 ghost use Rattle.mc_signal.specs.Outcomes.{bits_of};
 ghost use Rattle.mc_pattern.specs.Commands.{plain_command};
 ghost use Rattle.mc_pattern.specs.Rules.{command_rule, first_rule, is_stranger, is_undone};
-ghost use Rattle.mc_pattern.specs.Typed.{IsPlain, IsTyped};
+ghost use Rattle.mc_pattern.specs.Typed.{IsSet, IsTyped};
 
 use crate::command::Command;
 use mc_signal::Signal;
@@ -34,7 +34,7 @@ pub(crate) fn has_marked(marks: &[bool], qubits: &[u16]) -> bool
 /// Whether a member of the signal was not measured.
 fn has_unmarked(marks: &[bool], signal: &Signal) -> bool
     ensures unmarked { result ≡ list_any (is_undone (bits_of marks.now)) signal.now.members }
-    ensures plain { IsPlain signal.now }
+    ensures rising { IsSet signal.now }
 {
     let members = signal.members();
     'members: for i in 0..members.len() {
@@ -74,7 +74,7 @@ fn pair_rule(count: u16, marks: &[bool], q: u16, r: u16) -> Option<u8>
 /// The least rule that a command on one qubit with a signal breaks.
 fn signal_rule(count: u16, marks: &[bool], q: u16, signal: &Signal) -> Option<u8>
     ensures rule { result ≡ first_rule count (bits_of marks.now) (q ∷ []) false signal.now.members }
-    ensures plain { IfNone result (IsPlain signal.now) }
+    ensures rising { IfNone result (IsSet signal.now) }
 {
     if let Some(rule) = operand_rule(count, marks, &[q]) {
         Some(rule)

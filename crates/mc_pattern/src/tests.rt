@@ -120,5 +120,5 @@ fn lists_changes(rt: HostRuntime) -> Result<(), Fail> {
 /// The most commands take less than 32 MiB, and with the list that they are moved from while it grows less than 64 MiB.
 #[test]
 fn commands_are_small(rt: HostRuntime) {
-    assert_eq!(rt; size_of::<Command<4>>(), 72);
+    assert_eq!(rt; size_of::<Command<4>>(), 88);
 }

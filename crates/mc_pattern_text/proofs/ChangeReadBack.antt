@@ -14,7 +14,7 @@ use Rattle.mc_model.specs.Signals.{IsRising}
 use Rattle.mc_model.specs.Shift.{ChangeRow}
 use Rattle.mc_model.specs.Valid.{IsValidPattern}
 use Rattle.mc_pattern.proofs.Members.{below_by}
-use Rattle.mc_pattern.specs.Typed.{IsPlain}
+use Rattle.mc_pattern.specs.Typed.{IsSet}
 use Rattle.mc_text.specs.declared.head.Head.TheVariants.{O, End}
 use Rattle.mc_text.specs.Points.{point_of, last_head}
 use Rattle.mc_text.specs.Judged.{Words, Lines, section_lines}
@@ -38,7 +38,7 @@ use Rattle.mc_pattern_text.proofs.Parts.{among, get_map, last_head-line, or_righ
 record IsRowAt (names : List Name) (order : List ℕ) (i : ℕ) (row : ChangeRow) : Type 0 where
   next : slice_get order i ≡ Some row.qubit
   earlier : IsEarlier (take i order) row.signal
-  plain : IsPlain row.signal
+  set : IsSet row.signal
   qubit : row.qubit < length names
   members : All (λ q. q < length names) row.signal.members
 
@@ -95,7 +95,7 @@ row_clean names order before i row valid b r =
       rw b.row refl,
       (
         rw (named, held, b.count, r.next, number, eq-eqb row.qubit row.qubit refl) refl,
-        members_clean names order before name [] row.signal.members valid r.members r.plain.is_set
+        members_clean names order before name [] row.signal.members valid r.members r.set
             early,
       ),
     )
@@ -135,11 +135,11 @@ rows_clean names order before i (row ∷ rows) valid b all fit =
     let next : i + suc j ≡ suc i + j = omega arith in rw next at (fit (suc j) r get)))
 
 -- the rows of a change may stand at their places
-plain_at : (rows : List ChangeRow) (i : ℕ) (row : ChangeRow) → AllPlain rows
-    → slice_get rows i ≡ Some row → IsPlain row.signal
-plain_at [] i row plain e = absurd (cc e)
-plain_at (r ∷ rows) zero row plain e = let same : r ≡ row = cc e in rw (← same) plain.0
-plain_at (r ∷ rows) (suc i) row plain e = plain_at rows i row plain.1 e
+set_at : (rows : List ChangeRow) (i : ℕ) (row : ChangeRow) → AllPlain rows
+    → slice_get rows i ≡ Some row → IsSet row.signal
+set_at [] i row plain e = absurd (cc e)
+set_at (r ∷ rows) zero row plain e = let same : r ≡ row = cc e in rw (← same) plain.0.0
+set_at (r ∷ rows) (suc i) row plain e = set_at rows i row plain.1 e
 
 rows_fit : (p : Pattern) (rows : List ChangeRow) → IsValidPattern p → IsChangeOf p rows
     → AllPlain rows → (i : ℕ) (row : ChangeRow) → slice_get rows i ≡ Some row
@@ -150,7 +150,7 @@ rows_fit p rows valid h plain i row get =
       next = ap (λ (qs : List ℕ). slice_get qs i) (sym h.qubits)
           ∙ get_map (λ (r : ChangeRow). r.qubit) rows i row get;
       earlier = h.earlier i row get;
-      plain = plain_at rows i row plain get;
+      set = set_at rows i row plain get;
       qubit = named.qubit;
       members = named.members;
     }
@@ -199,7 +199,7 @@ spelled_back names [] valid plain named = refl
 spelled_back names (row ∷ rows) valid plain named =
     let first = named 0 row refl in
     let number = number-name_at names row.qubit valid.distinct first.qubit in
-    let signal = signal_back names row.signal valid.distinct plain.0 first.members in
+    let signal = signal_back names row.signal valid.distinct plain.0.0 plain.0.1 first.members in
     let rest = spelled_back names rows valid plain.1 (λ i r get. named (suc i) r get) in
     rw (number, signal, rest) refl
 

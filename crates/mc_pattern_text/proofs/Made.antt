@@ -17,7 +17,7 @@ use Rattle.mc_text.specs.Lists.{names_in, names_at}
 use Rattle.mc_text.proofs.Kept.{number_in-more}
 use Rattle.mc_pattern.specs.Commands.{plain_command}
 use Rattle.mc_pattern.specs.Rules.{is_prep, first_rule, command_rule, is_stranger, is_undone, marked, measured_by}
-use Rattle.mc_pattern.specs.Typed.{IsTyped, IsPlain}
+use Rattle.mc_pattern.specs.Typed.{IsTyped}
 use Rattle.mc_pattern.specs.Patterns.{IsBuilt, begun}
 use Rattle.mc_pattern.proofs.Built.{built_push}
 use Rattle.mc_pattern.proofs.Members.{none_by}
@@ -115,9 +115,6 @@ pub rule_two : (n : ℕ) (done : Bits) (q r : ℕ) → q < n → r < n → done 
     → (q ≡ r → ⊥) → command_rule n done (plain.Ent q r) ≡ None
 rule_two n done q r lq lr live live' apart =
     rw (no_stranger n q lq, no_stranger n r lr, live, live', ne_eqb q r apart) refl
-
-pub plain_signal : (set : List ℕ) → IsRising set → IsPlain (signal_with set)
-plain_signal set rising = record { is_set = rising; no_constant = refl }
 
 -- the names behind a line
 pub names_behind : (test : Option Head → Bool) (before : Lines) (h : List ℕ) (words : Words)

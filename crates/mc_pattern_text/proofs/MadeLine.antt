@@ -27,7 +27,7 @@ use Rattle.mc_pattern_text.specs.Judge.{lacks_by}
 use Rattle.mc_pattern_text.specs.Kept.{IsKept, Ends, signal_with, command_with}
 use Rattle.mc_pattern_text.proofs.Marked.{place-below, place-last}
 use Rattle.mc_pattern_text.proofs.KeepingWord.{known_of}
-use Rattle.mc_pattern_text.proofs.Made.{IsBuiltBehind, names_behind, names_stay, built_stays, built_more, rule_one, rule_two, none_undone, plain_signal}
+use Rattle.mc_pattern_text.proofs.Made.{IsBuiltBehind, names_behind, names_stay, built_stays, built_more, rule_one, rule_two, none_undone}
 
 -- the section begins with its inputs
 first_line : (last : Option Head) → may_follow last (Some In) ≡ true → last ≡ None
@@ -138,7 +138,7 @@ measuring_line {half} k k' before h a words p e kept ends g =
     built_more k k' before h (a ∷ words)
     (plain.Meas k.operands.first k.operands.angle (signal_with k.operands.s)
     (signal_with k.operands.t)) kept (rw g refl) (rw g refl) refl
-    (typed.angle, plain_signal k.operands.s typed.s, plain_signal k.operands.t typed.t)
+    (typed.angle, typed.s, typed.t)
     (rule_one (length k.names) (bits_of k.marks) k.operands.first (k.operands.s ++ k.operands.t)
     below live members)
     (kept.room (rw g refl)) ends.long marks (rw head at ends.commands)
@@ -153,7 +153,7 @@ x_line {half} k k' before h a words p e kept ends g =
     let marks : k'.marks ≡ k.marks = ends.same_marks (rw head refl) in
     let s = none_undone (bits_of k.marks) k.operands.s kept.operands.s_done in
     built_more k k' before h (a ∷ words) (plain.FixX k.operands.first (signal_with k.operands.s))
-    kept (rw g refl) (rw g refl) refl (plain_signal k.operands.s ends.typed.s)
+    kept (rw g refl) (rw g refl) refl ends.typed.s
     (rule_one (length k.names) (bits_of k.marks) k.operands.first k.operands.s below live s)
     (kept.room (rw g refl)) ends.long (ap bits_of marks) (rw head at ends.commands)
 
@@ -167,7 +167,7 @@ z_line {half} k k' before h a words p e kept ends g =
     let marks : k'.marks ≡ k.marks = ends.same_marks (rw head refl) in
     let s = none_undone (bits_of k.marks) k.operands.s kept.operands.s_done in
     built_more k k' before h (a ∷ words) (plain.FixZ k.operands.first (signal_with k.operands.s))
-    kept (rw g refl) (rw g refl) refl (plain_signal k.operands.s ends.typed.s)
+    kept (rw g refl) (rw g refl) refl ends.typed.s
     (rule_one (length k.names) (bits_of k.marks) k.operands.first k.operands.s below live s)
     (kept.room (rw g refl)) ends.long (ap bits_of marks) (rw head at ends.commands)
 

@@ -16,7 +16,7 @@ use Rattle.mc_text.specs.Rules.{number_in}
 use Rattle.mc_text.proofs.Numbers.{held-place, listed-number}
 use Rattle.mc_text.proofs.Naming.{numbers-name_at, place-name_at, is_name-name_at, name_written}
 use Rattle.mc_text.proofs.Written.{is_written}
-use Rattle.mc_pattern.specs.Typed.{IsPlain}
+use Rattle.mc_pattern.specs.Typed.{IsSet}
 use Rattle.mc_pattern_text.specs.Value.{signal_by}
 use Rattle.mc_pattern_text.specs.ChangeKept.{IsSignalOf}
 use Rattle.mc_pattern_text.proofs.Marked.{member-any, place-below}
@@ -99,19 +99,19 @@ names_written names (q ∷ qs) valid below =
 
 -- are read back as the signal
 pub signal_back : (names : List (List ℕ)) (signal : Signal) → IsDistinct name_eq names
-    → IsPlain signal → All (λ q. q < length names) signal.members
+    → IsSet signal → signal.constant ≡ false → All (λ q. q < length names) signal.members
     → signal_by names (map (name_at names) signal.members) ≡ signal
-signal_back names signal distinct plain below =
+signal_back names signal distinct set none below =
     let qs = signal.members in
     let are = numbers-name_at names qs distinct below in
     let same : numbers_where (is_member (map (number_in names) (map (name_at names) qs)))
     (length names)
     ≡ qs =
     rw (← are.numbers_are)
-    (where_members qs (length names) plain.is_set
+    (where_members qs (length names) set
     (λ k member. below_by (length names) qs k below member)) in
     ap (λ (members : List ℕ). record { members = members; constant = false }) same
-    ∙ ap (λ (b : Bool). record { members = qs; constant = b }) (sym plain.no_constant)
+    ∙ ap (λ (b : Bool). record { members = qs; constant = b }) (sym none)
 
 -- a member is not among those that are written before it
 rising_apart : (done : List ℕ) (q : ℕ) (qs : List ℕ) → IsRising (done ++ q ∷ qs)

@@ -1,8 +1,8 @@
 -- The canonical text of a pattern is read without a fault, as that pattern.
 use Rattle.std.proofs.Common.{◌≡◌, ℕ, zero, suc, ◌+◌, ◌<◌, ◌≤◌, Bool, true, false, All, List, [], ◌∷◌, ◌++◌, length, map, take, codes, refl, sym, ap, ap₂, ◌∙◌, append_assoc, arith, Option, Some, None, IsTrue, if◌then◌else◌}
 use Rattle.std.specs.Fmt.{decimal}
-use Rattle.std.specs.List.{filter_map, flat_map, list_all}
-use Rattle.std.proofs.lemmas.Bool.{eqb-true}
+use Rattle.std.specs.List.{filter_map, flat_map, list_all, list_any}
+use Rattle.std.proofs.lemmas.Bool.{eqb-true, or_parts}
 use Rattle.std.proofs.lemmas.Grind.{flat_map-append}
 use Rattle.std.proofs.lemmas.List.{append-nil, length-take-le, take_all}
 use Rattle.std.proofs.lemmas.List.Elements.{filter_map-append}
@@ -12,7 +12,7 @@ use Rattle.mc_lex.specs.Lines.{end_of}
 use Rattle.mc_write.specs.Named.{name_at}
 use Rattle.mc_angle.proofs.Numerals.{angle-decimal, number-decimal}
 use Rattle.mc_model.specs.Names.{Name, AreNames, is_name}
-use Rattle.mc_model.specs.Pattern.{Command, Prep, Ent, Meas, FixX, FixZ, Pattern}
+use Rattle.mc_model.specs.Pattern.{Command, Prep, Ent, Meas, FixX, FixZ, Pattern, has_constant}
 use Rattle.mc_model.specs.Signals.{Signal}
 use Rattle.mc_model.specs.Steps.{is_permitted}
 use Rattle.mc_model.specs.Valid.{IsValid, prepared}
@@ -153,12 +153,13 @@ both_under test ns w a qs rs no_w no_a valid first second none =
 
 meas_back : (half : ℕ) (ns : List Name) (q a : ℕ) (s t : Signal) → AreNames ns
     → IsTrue (is_permitted half) → IsNamed (length ns) (Meas q a s t) → IsTyped half (Meas q a s t)
+    → has_constant (Meas q a s t) ≡ false
     → (let words = name_at ns q ∷ decimal a
     ∷ (marked (codes "s:") ns s.members ++ marked (codes "t:") ns t.members) in
     command_by half ns (spelled_m (name_at ns q) (decimal a) (words_under is_first None words)
     (words_under is_second None words)))
     ≡ Meas q a s t
-meas_back half ns q a s t valid permitted named typed =
+meas_back half ns q a s t valid permitted named typed none =
     let w = name_at ns q in
     let no_w = name_no_mark w (is_name-name_at ns q valid named.0) in
     let no_a = decimal_no_mark half a permitted typed.0 in
@@ -170,38 +171,43 @@ meas_back half ns q a s t valid permitted named typed =
     refl in
     let number = number-name_at ns q valid.distinct named.0 in
     let angle = (angle-decimal half a permitted typed.0).1 in
-    let s_back = signal_back ns s valid.distinct typed.1 named.1 in
-    let t_back = signal_back ns t valid.distinct typed.2 named.2 in
+    let constants = or_parts s.constant t.constant none in
+    let s_back = signal_back ns s valid.distinct typed.1 constants.0 named.1 in
+    let t_back = signal_back ns t valid.distinct typed.2 constants.1 named.2 in
     ap₂ (λ (xs ys : Words). command_by half ns (spelled_m w (decimal a) xs ys)) first second
     ∙ rw (number, angle, s_back, t_back) refl
 
 commands_back : (half : ℕ) (ns : List Name) (cs : List Command) → AreNames ns
     → IsTrue (is_permitted half) → AreNamed (length ns) cs → AllTyped half cs
+    → list_any has_constant cs ≡ false
     → map (command_by half ns) (filter_map spelled_command (map (command_line ns) cs)) ≡ cs
-commands_back half ns [] valid permitted named typed = refl
-commands_back half ns (Prep q ∷ cs) valid permitted named typed =
+commands_back half ns [] valid permitted named typed none = refl
+commands_back half ns (Prep q ∷ cs) valid permitted named typed none =
     let number = number-name_at ns q valid.distinct named.0 in
     ap₂ (λ (c : Command) (ds : List Command). c ∷ ds) (ap Prep number)
-    (commands_back half ns cs valid permitted named.1 typed.1)
-commands_back half ns (Ent q r ∷ cs) valid permitted named typed =
+    (commands_back half ns cs valid permitted named.1 typed.1 none)
+commands_back half ns (Ent q r ∷ cs) valid permitted named typed none =
     let first = number-name_at ns q valid.distinct named.0.0 in
     let second = number-name_at ns r valid.distinct named.0.1 in
     ap₂ (λ (c : Command) (ds : List Command). c ∷ ds) (ap₂ Ent first second)
-    (commands_back half ns cs valid permitted named.1 typed.1)
-commands_back half ns (Meas q a s t ∷ cs) valid permitted named typed =
+    (commands_back half ns cs valid permitted named.1 typed.1 none)
+commands_back half ns (Meas q a s t ∷ cs) valid permitted named typed none =
+    let parts = or_parts (has_constant (Meas q a s t)) (list_any has_constant cs) none in
     ap₂ (λ (c : Command) (ds : List Command). c ∷ ds)
-    (meas_back half ns q a s t valid permitted named.0 typed.0)
-    (commands_back half ns cs valid permitted named.1 typed.1)
-commands_back half ns (FixX q s ∷ cs) valid permitted named typed =
+    (meas_back half ns q a s t valid permitted named.0 typed.0 parts.0)
+    (commands_back half ns cs valid permitted named.1 typed.1 parts.1)
+commands_back half ns (FixX q s ∷ cs) valid permitted named typed none =
+    let parts = or_parts s.constant (list_any has_constant cs) none in
     let number = number-name_at ns q valid.distinct named.0.0 in
-    let signal = signal_back ns s valid.distinct typed.0 named.0.1 in
+    let signal = signal_back ns s valid.distinct typed.0 parts.0 named.0.1 in
     ap₂ (λ (c : Command) (ds : List Command). c ∷ ds) (ap₂ FixX number signal)
-    (commands_back half ns cs valid permitted named.1 typed.1)
-commands_back half ns (FixZ q s ∷ cs) valid permitted named typed =
+    (commands_back half ns cs valid permitted named.1 typed.1 parts.1)
+commands_back half ns (FixZ q s ∷ cs) valid permitted named typed none =
+    let parts = or_parts s.constant (list_any has_constant cs) none in
     let number = number-name_at ns q valid.distinct named.0.0 in
-    let signal = signal_back ns s valid.distinct typed.0 named.0.1 in
+    let signal = signal_back ns s valid.distinct typed.0 parts.0 named.0.1 in
     ap₂ (λ (c : Command) (ds : List Command). c ∷ ds) (ap₂ FixZ number signal)
-    (commands_back half ns cs valid permitted named.1 typed.1)
+    (commands_back half ns cs valid permitted named.1 typed.1 parts.1)
 
 -- the names that the lines define
 commands_after : (ns : List Name) (inputs : ℕ) (before : Lines) (done cs : List Command)
@@ -249,8 +255,8 @@ names_of test p =
     (append-nil (names_in test (codes "end" ∷ [])))
 
 pattern_back : (half : ℕ) (p : Pattern) → IsPattern half p → IsTrue (is_permitted half)
-    → pattern_of half (pattern_lines p) ≡ p
-pattern_back half p h permitted =
+    → list_any has_constant p.commands ≡ false → pattern_of half (pattern_lines p) ≡ p
+pattern_back half p h permitted none =
     let ns = p.names in
     let valid = h.valid.names in
     let qubits = h.valid.qubits in
@@ -278,7 +284,7 @@ pattern_back half p h permitted =
     ((codes "out" ∷ map (name_at ns) p.outputs) ∷ (codes "end" ∷ []) ∷ [])
     ∙ append-nil (filter_map spelled_command (map (command_line ns) p.commands)) in
     let commands = commands_back half ns p.commands valid permitted (pattern_named p h.valid)
-    h.typed in
+    h.typed none in
     rw (defined, inputs, few, listed, ← are.numbers_are, spelled, commands) refl
 
 pub text_read : (half : ℕ) (p : Pattern) → IsPattern half p → IsTrue (is_permitted half)
@@ -290,13 +296,15 @@ text_read half p h permitted =
     (pattern_clean half p h permitted)
 
 pub text_back : (half : ℕ) (p : Pattern) → IsPattern half p → IsTrue (is_permitted half)
+    → list_any has_constant p.commands ≡ false
     → pattern_of half (section_lines (behind_header (pattern_text p))) ≡ p
-text_back half p h permitted =
-    ap (pattern_of half) (text_read half p h permitted).same ∙ pattern_back half p h permitted
+text_back half p h permitted none =
+    ap (pattern_of half) (text_read half p h permitted).same ∙ pattern_back half p h permitted none
 
 pub same_text : (half : ℕ) (p q : Pattern) → IsPattern half p → IsPattern half q
-    → IsTrue (is_permitted half) → pattern_text p ≡ pattern_text q → p ≡ q
-same_text half p q h k permitted e =
-    sym (text_back half p h permitted)
+    → IsTrue (is_permitted half) → list_any has_constant p.commands ≡ false
+    → list_any has_constant q.commands ≡ false → pattern_text p ≡ pattern_text q → p ≡ q
+same_text half p q h k permitted none none' e =
+    sym (text_back half p h permitted none)
     ∙ ap (λ text. pattern_of half (section_lines (behind_header text))) e
-    ∙ text_back half q k permitted
+    ∙ text_back half q k permitted none'

@@ -1,10 +1,10 @@
 -- The changes of a pattern's outcomes.
-use Rattle.std.specs.Prelude.{◌≡◌, ℕ, ◌<◌, All, true, List, [], ◌∷◌, map, filter_map, take, slice_get, Some, ⊤}
+use Rattle.std.specs.Prelude.{◌≡◌, ℕ, ◌<◌, All, true, false, List, [], ◌∷◌, map, filter_map, take, slice_get, Some, ⊤}
 use Rattle.mc_model.specs.Numbers.{is_member}
 use Rattle.mc_model.specs.Shift.{ChangeRow}
 use Rattle.mc_model.specs.Pattern.{Command, Pattern}
 use Rattle.mc_pattern.specs.Rules.{measured_by}
-use Rattle.mc_pattern.specs.Typed.{IsPlain}
+use Rattle.mc_pattern.specs.Typed.{IsSet}
 
 -- the measured qubits, in measuring order
 abbrev pub measured_order : List Command → List ℕ
@@ -32,7 +32,7 @@ pub record IsRowNamed (n : ℕ) (row : ChangeRow) : Type 0 where
 abbrev pub AreRowsNamed : ℕ → List ChangeRow → Type 0
 AreRowsNamed n rows = (i : ℕ) (row : ChangeRow) → slice_get rows i ≡ Some row → IsRowNamed n row
 
--- what the types of the code say of the rows
+-- the members of each row's signal are a set, in order, and there is no constant
 abbrev pub AllPlain : List ChangeRow → Type 0
 AllPlain [] = ⊤
-AllPlain (row ∷ rows) = IsPlain row.signal × AllPlain rows
+AllPlain (row ∷ rows) = (IsSet row.signal × (row.signal.constant ≡ false)) × AllPlain rows

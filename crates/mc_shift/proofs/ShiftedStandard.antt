@@ -10,7 +10,7 @@ use Rattle.mc_model.specs.Valid.{prepared, IsValid, IsValidPattern}
 use Rattle.mc_model.specs.StandardForm.{preparations_of, standard_commands, standard_form}
 use Rattle.mc_model.specs.Shift.{ChangeRow, new_outcomes, change_of, IsShiftedSignal, IsShifted, IsShiftedForm}
 use Rattle.mc_model.proofs.SignalLemmas.{reset}
-use Rattle.mc_pattern.specs.Typed.{IsPlain, AllTyped}
+use Rattle.mc_pattern.specs.Typed.{IsSet, AllTyped}
 use Rattle.mc_standard.specs.Parts.{IsStandardForm, IsInParts, entanglings_of, measurements_of, corrections_of, with_signals}
 use Rattle.mc_standard.proofs.RunningSums.{WellMade, InPlace, same_signals}
 use Rattle.mc_standard.proofs.InPlaceLemmas.{valid_in_place}
@@ -19,7 +19,7 @@ use Rattle.mc_standard.proofs.Settles.{improves_or_settled}
 use Rattle.mc_standard.proofs.SettledForm.{settled_is_standard}
 use Rattle.mc_standard.proofs.Derives.{standard_stays}
 use Rattle.mc_standard.proofs.InParts.{part_of_all}
-use Rattle.mc_standard.proofs.StandardTyped.{no_plain, sum_plain}
+use Rattle.mc_standard.proofs.StandardTyped.{no_set, sum_set}
 use Rattle.mc_shift.specs.Shifted.{expanded, shifted_signal, shifted, none_yet, shifted_form}
 use Rattle.mc_shift.proofs.ShiftedForm.{form_exists, form_unique}
 use Rattle.mc_shift.proofs.ShiftedValid.{shifted_forms_valid}
@@ -199,43 +199,41 @@ length-shifted rows (FixX q s ∷ cs) (FixX q' s' ∷ ds) h = ap suc (length-shi
 length-shifted rows (FixZ q s ∷ cs) (FixZ q' s' ∷ ds) h = ap suc (length-shifted rows cs ds h.2)
 length-shifted rows cs ds h = absurd h
 
--- a plain signal for each qubit
-abbrev AllPlain : Signals → Type 0
-AllPlain d = (q : ℕ) → IsPlain (d q)
+-- a set for each qubit
+abbrev AllSets : Signals → Type 0
+AllSets d = (q : ℕ) → IsSet (d q)
 
-one_plain : (q : ℕ) → IsPlain (signal_of q)
-one_plain q = record { is_set = (tt, tt); no_constant = refl }
+one_set : (q : ℕ) → IsSet (signal_of q)
+one_set q = (tt, tt)
 
-expanded_plain : (d : Signals) (qs : List ℕ) → AllPlain d → IsPlain (expanded d qs)
+expanded_set : (d : Signals) (qs : List ℕ) → AllSets d → IsSet (expanded d qs)
 unfolding expanded
-expanded_plain d [] plain = no_plain
-expanded_plain d (q ∷ qs) plain =
-    sum_plain (signal_sum (signal_of q) (d q)) (expanded d qs)
-    (sum_plain (signal_of q) (d q) (one_plain q) (plain q)) (expanded_plain d qs plain)
+expanded_set d [] sets = no_set
+expanded_set d (q ∷ qs) sets =
+    sum_set (signal_sum (signal_of q) (d q)) (expanded d qs)
+    (sum_set (signal_of q) (d q) (one_set q) (sets q)) (expanded_set d qs sets)
 
-signal_plain : (d : Signals) (s : Signal) → AllPlain d → IsPlain s → IsPlain (shifted_signal d s)
-signal_plain d s plain one =
-    let sum = expanded_plain d s.members plain in
-    record { is_set = sum.is_set; no_constant = rw (one.no_constant, sum.no_constant) refl }
+signal_set : (d : Signals) (s : Signal) → AllSets d → IsSet s → IsSet (shifted_signal d s)
+signal_set d s sets one = expanded_set d s.members sets
 
-reset_plain : (d : Signals) (i : ℕ) (t : Signal) → AllPlain d → IsPlain t → AllPlain (reset d i t)
-reset_plain d i t plain one q = elim (cases_Bool (nat_eq q i))
-    [ inl e ↦ rw e one | inr e ↦ rw e (plain q) ]
+reset_set : (d : Signals) (i : ℕ) (t : Signal) → AllSets d → IsSet t → AllSets (reset d i t)
+reset_set d i t sets one q = elim (cases_Bool (nat_eq q i))
+    [ inl e ↦ rw e one | inr e ↦ rw e (sets q) ]
 
-typed_shifted : (half : ℕ) (d : Signals) (cs : List Command) → AllPlain d → AllTyped half cs →
+typed_shifted : (half : ℕ) (d : Signals) (cs : List Command) → AllSets d → AllTyped half cs →
     AllTyped half (shifted d cs)
 unfolding shifted
-typed_shifted half d [] plain t = tt
-typed_shifted half d (Prep q ∷ cs) plain t = (tt, typed_shifted half d cs plain t.1)
-typed_shifted half d (Ent q r ∷ cs) plain t = (tt, typed_shifted half d cs plain t.1)
-typed_shifted half d (FixX q s ∷ cs) plain t =
-    (signal_plain d s plain t.0, typed_shifted half d cs plain t.1)
-typed_shifted half d (FixZ q s ∷ cs) plain t =
-    (signal_plain d s plain t.0, typed_shifted half d cs plain t.1)
-typed_shifted half d (Meas i a s u ∷ cs) plain t = (
-  (t.0.0, signal_plain d s plain t.0.1, no_plain),
+typed_shifted half d [] sets t = tt
+typed_shifted half d (Prep q ∷ cs) sets t = (tt, typed_shifted half d cs sets t.1)
+typed_shifted half d (Ent q r ∷ cs) sets t = (tt, typed_shifted half d cs sets t.1)
+typed_shifted half d (FixX q s ∷ cs) sets t =
+    (signal_set d s sets t.0, typed_shifted half d cs sets t.1)
+typed_shifted half d (FixZ q s ∷ cs) sets t =
+    (signal_set d s sets t.0, typed_shifted half d cs sets t.1)
+typed_shifted half d (Meas i a s u ∷ cs) sets t = (
+  (t.0.0, signal_set d s sets t.0.1, no_set),
   typed_shifted half (reset d i (shifted_signal d u)) cs
-      (reset_plain d i (shifted_signal d u) plain (signal_plain d u plain t.0.2)) t.1,
+      (reset_set d i (shifted_signal d u) sets (signal_set d u sets t.0.2)) t.1,
 )
 
 form_typed : (half : ℕ) (p q : Pattern) → IsValidPattern p → AllTyped half p.commands →
@@ -244,7 +242,7 @@ unfolding shifted_form
 form_typed half p q valid typed form =
     subst (λ (r : Pattern). AllTyped half r.commands)
     (sym (form_unique p q (shifted_form p) valid form (form_exists p valid)))
-    (typed_shifted half none_yet p.commands (λ k. no_plain) typed)
+    (typed_shifted half none_yet p.commands (λ k. no_set) typed)
 
 pub shifted_standard : (half : ℕ) (p q : Pattern) → IsStandardForm half p → IsShiftedForm p q →
     IsStandardForm half q

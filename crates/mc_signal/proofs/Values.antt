@@ -7,7 +7,7 @@ use Rattle.std.proofs.lemmas.List.{drop_all}
 use Rattle.std.proofs.lemmas.Bool.{eqb-true, eqb-false, eq-eqb, ne_eqb, or_parts}
 use Rattle.mc_model.specs.Numbers.{is_member}
 use Rattle.mc_model.specs.Bits.{◌⊻◌, Bits, parity, replaced}
-use Rattle.mc_model.specs.Signals.{Signal, value, signal_of, signal_sum, toggled, toggled_all, AllAbove, IsRising}
+use Rattle.mc_model.specs.Signals.{Signal, value, one_signal, signal_of, signal_sum, toggled, toggled_all, AllAbove, IsRising}
 use Rattle.mc_model.proofs.SignalLemmas.{value-sum}
 use Rattle.mc_signal.proofs.Members.{is_member-above}
 
@@ -55,19 +55,21 @@ parity-replaced q b [] o rising = refl
 parity-replaced q b (p ∷ ps) o rising =
     parity_by q b p ps o (nat_eq p q) refl rising.0 (parity-replaced q b ps o rising.1)
 
-substituted : (a m n c : Bool) → c ≡ true → ((a ⊻ m) ⊻ n) ≡ (m ⊻ (c && (a ⊻ n)))
-substituted a m n c e = grind arith
+substituted : (d a m n c : Bool) → c ≡ true
+    → (d ⊻ ((a ⊻ m) ⊻ n)) ≡ (m ⊻ (c && (a ⊻ (d ⊻ n))))
+substituted d a m n c e = grind arith
 
--- the sum over a set in which `q` is replaced by another set
-pub parity-replaced_sum : (q : ℕ) (ps qs : List ℕ) (o : Bits) → IsRising ps → is_member ps q ≡ true
-    → parity (toggled_all (toggled q ps) qs) o ≡ parity ps (replaced o q (parity qs o))
-parity-replaced_sum q ps qs o rising member =
+-- the sum over a set in which `q` is replaced by another set and a constant
+pub parity-replaced_sum : (q : ℕ) (d : Bool) (ps qs : List ℕ) (o : Bits) → IsRising ps
+    → is_member ps q ≡ true
+    → (d ⊻ parity (toggled_all (toggled q ps) qs) o) ≡ parity ps (replaced o q (d ⊻ parity qs o))
+parity-replaced_sum q d ps qs o rising member =
     rw (
       parity-toggled_all (toggled q ps) qs o,
       parity-toggled q ps o,
-      parity-replaced q (parity qs o) ps o rising,
+      parity-replaced q (d ⊻ parity qs o) ps o rising,
     )
-    (substituted (o q) (parity ps o) (parity qs o) (is_member ps q) member)
+    (substituted d (o q) (parity ps o) (parity qs o) (is_member ps q) member)
 
 -- the outcome of a number that is no member does not matter
 pub parity-lacks : (q : ℕ) (b : Bool) (ps : List ℕ) (o : Bits) → is_member ps q ≡ false
@@ -78,6 +80,10 @@ parity-lacks q b (p ∷ ps) o lacks =
     let parts = or_parts (nat_eq q p) (is_member ps q) lacks in
     let other : nat_eq p q ≡ false = ne_eqb p q (λ e. absurd (eqb-false q p parts.0 (sym e))) in
     rw (other, parity-lacks q b ps o parts.1) refl
+
+-- the sum of two bits, as the code adds them
+added_bits : (a b : Bool) → not (beq a b) ≡ (a ⊻ b)
+added_bits a b = grind arith
 
 added_next : (s g r : Bool) → (not (beq s g) ⊻ r) ≡ (s ⊻ (g ⊻ r))
 added_next s g r = grind arith
@@ -96,27 +102,43 @@ pub parity_end : (s t : Bool) (ps : List ℕ) (i : ℕ) (o : Bits) → length ps
 unfolding parity
 parity_end s t ps i o none same = sym (and_nothing s) ∙ (rw (drop_all i ps none) at same)
 
--- without a constant
-pub value-members : (ps : List ℕ) (o : Bits) → value (set_of ps) o ≡ parity ps o
-unfolding value
-value-members ps o = refl
+-- ---- with a constant
 
-pub value-lacks : (q : ℕ) (b : Bool) (ps : List ℕ) (o : Bits) → is_member ps q ≡ false
-    → value (set_of ps) o ≡ value (set_of ps) (replaced o q b)
+abbrev pub with_constant : List ℕ → Bool → Signal
+with_constant ps c = record { members = ps; constant = c }
+
+pub value-of : (ps : List ℕ) (c b : Bool) (o : Bits) → b ≡ parity ps o
+    → not (beq c b) ≡ value (with_constant ps c) o
 unfolding value
-value-lacks q b ps o lacks = sym (parity-lacks q b ps o lacks)
+value-of ps c b o same = rw same (added_bits c (parity ps o))
+
+pub value-lacks : (q : ℕ) (b c : Bool) (ps : List ℕ) (o : Bits) → is_member ps q ≡ false
+    → value (with_constant ps c) o ≡ value (with_constant ps c) (replaced o q b)
+unfolding value
+value-lacks q b c ps o lacks = ap (λ (n : Bool). c ⊻ n) (sym (parity-lacks q b ps o lacks))
+
+pub flipped : (ps : List ℕ) (c : Bool)
+    → with_constant ps (not c) ≡ signal_sum one_signal (with_constant ps c)
+unfolding toggled_all
+flipped ps c = refl
 
 -- a signal in which a member is replaced by another signal
-pub signal-replaced : (q : ℕ) (ps qs new : List ℕ) → is_member ps q ≡ true
+pub signal-replaced : (q : ℕ) (ps qs new : List ℕ) (c d : Bool) → is_member ps q ≡ true
     → new ≡ toggled_all (toggled q ps) qs
-    → set_of new
-    ≡ (if is_member ps q then signal_sum (signal_sum (signal_of q) (set_of ps)) (set_of qs)
-    else set_of ps)
+    → with_constant new (not (beq c d))
+    ≡ (if is_member ps q
+    then signal_sum (signal_sum (signal_of q) (with_constant ps c)) (with_constant qs d)
+    else with_constant ps c)
 unfolding toggled_all
-signal-replaced q ps qs new member same = rw (same, member) refl
+signal-replaced q ps qs new c d member same = rw (same, member, added_bits c d) refl
 
-pub value-replaced : (q : ℕ) (ps qs new : List ℕ) (o : Bits)
-    → parity new o ≡ parity ps (replaced o q (parity qs o))
-    → value (set_of new) o ≡ value (set_of ps) (replaced o q (value (set_of qs) o))
+pub value-replaced : (q : ℕ) (ps qs new : List ℕ) (c d : Bool) (o : Bits)
+    → (d ⊻ parity new o) ≡ parity ps (replaced o q (d ⊻ parity qs o))
+    → value (with_constant new (not (beq c d))) o
+    ≡ value (with_constant ps c) (replaced o q (value (with_constant qs d) o))
 unfolding value
-value-replaced q ps qs new o same = same
+value-replaced q ps qs new c d o same =
+    rw (added_bits c d) (moved c d (parity new o) ∙ ap (λ (n : Bool). c ⊻ n) same)
+  where
+    moved : (c d n : Bool) → ((c ⊻ d) ⊻ n) ≡ (c ⊻ (d ⊻ n))
+    moved c d n = grind arith

@@ -1,6 +1,6 @@
 //! Sets of qubits.
 
-ghost use Rattle.std.specs.Prelude.{◌≡◌, ◌<◌, ◌≤◌, ◌↔◌, ℕ, [], ◌∷◌, ◌++◌, All, IfOk, IsTrue, MatchResult, Some, OnErr, OnOk, insert, length, nat_eq, remove, slice_get};
+ghost use Rattle.std.specs.Prelude.{◌≡◌, ◌<◌, ◌≤◌, ◌↔◌, ℕ, Bool, [], ◌∷◌, ◌++◌, All, IfOk, IsTrue, MatchResult, Some, OnErr, OnOk, insert, length, nat_eq, remove, slice_get};
 ghost use Rattle.mc_model.specs.Numbers.{is_member};
 ghost use Rattle.mc_model.specs.Bits.{◌⊻◌, Bits, parity, replaced};
 ghost use Rattle.mc_model.specs.Signals.{IsRising, toggled, toggled_all};
@@ -10,6 +10,7 @@ use smallvec::SmallVec;
 use std::alloc::Global;
 use std::cmp::Ordering;
 use std::marker::Model;
+use std::mem;
 
 /// The members in rising order; up to 16 lie in the value itself.
 type Members = SmallVec<u8, 16>;
@@ -187,8 +188,8 @@ impl QSet {
     pub(crate) fn replaced(&self, q: u16, by: &QSet) -> Result<QSet, Memory>
         requires { IsTrue (is_member self.now q) × (q < 256) }
         ensures set { IfOk result (λ set. set ≡ toggled_all (toggled q self.now) by.now) }
-        ensures parity { IfOk result (λ set. (o : Bits) →
-            parity set o ≡ parity self.now (replaced o q (parity by.now o))) }
+        ensures parity { IfOk result (λ set. (o : Bits) (b : Bool) →
+            (b ⊻ parity set o) ≡ parity self.now (replaced o q (b ⊻ parity by.now o))) }
     {
         // opens the set, whose members rise
         let _ = &self.members;
@@ -196,6 +197,17 @@ impl QSet {
         rest.toggle(q)?;
         let set = rest.sum(by)?;
         Ok(set)
+    }
+
+    /// Hands the set out and leaves the empty one, without memory.
+    pub(crate) fn take(&mut self) -> QSet
+        ensures taken { result ≡ self.old }
+        ensures left { self.new ≡ [] }
+    {
+        let alloc = *self.members.allocator();
+        QSet {
+            members: mem::replace(&mut self.members, SmallVec::new(alloc)),
+        }
     }
 
     /// The same set.

@@ -1,9 +1,11 @@
 //! Signals.
 
-ghost use Rattle.std.specs.Prelude.{◌≡◌, ◌<◌, ℕ, All, IfOk, OnErr, OnOk, false, length, if◌then◌else◌};
+ghost use Rattle.std.specs.Prelude.{◌≡◌, ◌<◌, ℕ, All, IfOk, OnErr, OnOk, false, not, length, if◌then◌else◌};
 ghost use Rattle.mc_model.specs.Numbers.{is_member};
 ghost use Rattle.mc_model.specs.Bits.{◌⊻◌, Bits, parity, replaced};
-ghost use Rattle.mc_model.specs.Signals.{Signal as PlainSignal, IsRising, no_signal, signal_of, signal_sum, is_empty, value};
+ghost use Rattle.mc_model.specs.Signals.{
+    Signal as PlainSignal, IsRising, no_signal, one_signal, signal_of, signal_sum, is_empty, value,
+};
 ghost use Rattle.mc_signal.specs.Outcomes.{bits_of};
 
 use crate::outcomes::Outcomes;
@@ -12,19 +14,19 @@ use mc_model::Memory;
 use std::alloc::Global;
 use std::marker::Model;
 
-/// A set of measured qubits, whose value is the sum of their outcomes.
+/// A set of measured qubits and a constant, whose value is the constant plus the sum of the outcomes.
 #[derive(Drop)]
 pub struct Signal {
     members: QSet,
+    constant: bool,
 }
 
 impl Model for Signal {
-    ghost use Rattle.std.specs.Prelude.{false};
     ghost use Rattle.mc_model.specs.Signals.{Signal as PlainSignal};
 
     ghost Value = { PlainSignal };
 
-    ghost view = { λ s. record { members = s.members; constant = false } };
+    ghost view = { λ s. record { members = s.members; constant = s.constant } };
 }
 
 /// The sum of the members' outcomes.
@@ -40,37 +42,57 @@ fn parity_of(members: &[u8], outcomes: &Outcomes) -> bool
 }
 
 impl Signal {
-    /// The signal without members, which is always 0 and takes no memory.
+    /// The signal without members and constant, which is always 0 and takes no memory.
     pub fn empty(alloc: Global) -> Signal
         ensures { result ≡ no_signal }
     {
         Signal {
             members: QSet::new(alloc),
+            constant: false,
         }
     }
 
-    /// The signal with these members.
+    /// The constant alone, which is always 1 and takes no memory.
+    pub fn one(alloc: Global) -> Signal
+        ensures { result ≡ one_signal }
+    {
+        Signal {
+            members: QSet::new(alloc),
+            constant: true,
+        }
+    }
+
+    /// The signal with these members and no constant.
     pub fn of(members: QSet) -> Signal
         ensures { result ≡ record { members = members; constant = false } }
     {
-        Signal { members }
+        Signal {
+            members,
+            constant: false,
+        }
     }
 
-    /// The members. No signal has a constant.
+    /// The members.
     pub fn members(&self) -> &QSet
         ensures members { result.now ≡ self.now.members }
         ensures rising { IsRising self.now.members }
-        ensures constant { self.now.constant ≡ false }
     {
         let _rising = self.members.len();
         &self.members
     }
 
-    /// Whether the signal has no members, and so is always 0.
+    /// Whether the signal has the constant.
+    pub fn constant(&self) -> bool
+        ensures { result ≡ self.now.constant }
+    {
+        self.constant
+    }
+
+    /// Whether the signal has neither members nor the constant, and so is always 0.
     pub fn is_empty(&self) -> bool
         ensures { result ≡ is_empty self.now }
     {
-        self.members.is_empty()
+        self.members.is_empty() && !self.constant
     }
 
     /// Whether a qubit is a member.
@@ -78,6 +100,14 @@ impl Signal {
         ensures { result ≡ is_member self.now.members q }
     {
         self.members.has(q)
+    }
+
+    /// Adds the constant.
+    pub fn flip(&mut self)
+        ensures signal { self.new ≡ signal_sum one_signal self.old }
+        ensures constant { self.new.constant ≡ not self.old.constant }
+    {
+        self.constant = !self.constant;
     }
 
     /// Adds the outcome of a qubit, which takes the qubit out where it is a member.
@@ -90,7 +120,7 @@ impl Signal {
         Ok(())
     }
 
-    /// Adds a signal: the members are then those of just one of the two.
+    /// Adds a signal: the members are then those of just one of the two, and the constants are added.
     pub fn add(&mut self, other: &Signal) -> Result<(), Memory>
         ensures ok { OnOk result (self.new ≡ signal_sum self.old other.now) }
         ensures members { OnOk result ((q : ℕ) →
@@ -99,6 +129,7 @@ impl Signal {
         ensures err { OnErr result (self.new ≡ self.old) }
     {
         self.members = self.members.sum(&other.members)?;
+        self.constant ^= other.constant;
         Ok(())
     }
 
@@ -118,15 +149,29 @@ impl Signal {
             return Ok(());
         }
         self.members = self.members.replaced(q, &by.members)?;
+        self.constant ^= by.constant;
         Ok(())
     }
 
-    /// The sum of the members' outcomes.
+    /// Hands the signal out and leaves the empty one, without memory.
+    pub fn take(&mut self) -> Signal
+        ensures taken { result ≡ self.old }
+        ensures left { self.new ≡ no_signal }
+    {
+        let taken = Signal {
+            members: self.members.take(),
+            constant: self.constant,
+        };
+        self.constant = false;
+        taken
+    }
+
+    /// The constant plus the sum of the members' outcomes.
     pub fn value(&self, outcomes: &Outcomes) -> bool
         requires { All (λ q. q < length outcomes.now) self.now.members }
         ensures { result ≡ value self.now (bits_of outcomes.now) }
     {
-        parity_of(self.members.as_slice(), outcomes)
+        self.constant ^ parity_of(self.members.as_slice(), outcomes)
     }
 
     /// The same signal.
@@ -134,7 +179,10 @@ impl Signal {
         ensures { IfOk result (λ signal. signal ≡ self.now) }
     {
         match self.members.copy() {
-            Ok(members) => Ok(Signal { members }),
+            Ok(members) => Ok(Signal {
+                members,
+                constant: self.constant,
+            }),
             Err(_) => Err(Memory),
         }
     }

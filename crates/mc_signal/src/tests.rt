@@ -40,6 +40,23 @@ fn adds_and_replaces(rt: HostRuntime) -> Result<(), Fail> {
 }
 
 #[test]
+fn adds_constants(rt: HostRuntime) -> Result<(), Fail> {
+    let alloc = rt.alloc();
+    let mut signal = Signal::one(alloc);
+    assert!(rt; signal.constant() && !signal.is_empty());
+    signal.toggle(3)?;
+    signal.add(&Signal::one(alloc))?;
+    assert!(rt; !signal.constant() && signal.has(3));
+    signal.flip();
+    let outcomes = Outcomes::new(alloc, 256)?;
+    let taken = signal.take();
+    assert!(rt; signal.is_empty() && taken.constant() && taken.has(3));
+    let _ = taken.members().len();
+    assert!(rt; taken.value(&outcomes));
+    Ok(())
+}
+
+#[test]
 fn sums_outcomes(rt: HostRuntime) -> Result<(), Fail> {
     let alloc = rt.alloc();
     let mut outcomes = Outcomes::new(alloc, 256)?;

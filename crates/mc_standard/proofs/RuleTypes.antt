@@ -3,7 +3,7 @@ use Rattle.std.proofs.Common.{ℕ, List, [], ◌∷◌, ◌++◌, subst}
 use Rattle.mc_model.specs.Pattern.{Command}
 use Rattle.mc_model.specs.Derivation.{Rule, XE, ZE, XM, ZM, Swap, Join, EE, Cancel, XZ, Turn, DropEmpty, Rewrites, Step, x_first, x_second, z_first, z_second, x_measured, z_measured, swapped, x_joined, z_joined, edges_exchanged, same_cancelled, turned_cancelled, x_behind_z, z_behind_x, turned, x_dropped, z_dropped}
 use Rattle.mc_pattern.specs.Typed.{AllTyped}
-use Rattle.mc_standard.proofs.StandardTyped.{sum_plain, typed_append}
+use Rattle.mc_standard.proofs.StandardTyped.{sum_set, typed_append}
 use mathlib.Core.Path.{sym}
 
 typed_parts : (half : ℕ) (cs ds : List Command) → AllTyped half (cs ++ ds) →
@@ -19,12 +19,12 @@ rule_typed half XE _ _ (x_second {i} {j} {s}) h = (tt, (h.0, (h.0, tt)))
 rule_typed half ZE _ _ (z_first {i} {j} {s}) h = (tt, (h.0, tt))
 rule_typed half ZE _ _ (z_second {i} {j} {s}) h = (tt, (h.0, tt))
 rule_typed half XM _ _ (x_measured {i} {a} {r} {s} {t}) h =
-    ((h.1.0.0, sum_plain s r h.1.0.1 h.0, h.1.0.2), tt)
+    ((h.1.0.0, sum_set s r h.1.0.1 h.0, h.1.0.2), tt)
 rule_typed half ZM _ _ (z_measured {i} {a} {r} {s} {t}) h =
-    ((h.1.0.0, h.1.0.1, sum_plain t r h.1.0.2 h.0), tt)
+    ((h.1.0.0, h.1.0.1, sum_set t r h.1.0.2 h.0), tt)
 rule_typed half Swap _ _ (swapped {c} {d} apart unused) h = (h.1.0, (h.0, tt))
-rule_typed half Join _ _ (x_joined {i} {s} {t}) h = (sum_plain s t h.0 h.1.0, tt)
-rule_typed half Join _ _ (z_joined {i} {s} {t}) h = (sum_plain s t h.0 h.1.0, tt)
+rule_typed half Join _ _ (x_joined {i} {s} {t}) h = (sum_set s t h.0 h.1.0, tt)
+rule_typed half Join _ _ (z_joined {i} {s} {t}) h = (sum_set s t h.0 h.1.0, tt)
 rule_typed half EE _ _ (edges_exchanged {i} {j} {q} {r}) h = (tt, (tt, tt))
 rule_typed half Cancel _ _ (same_cancelled {i} {j}) h = tt
 rule_typed half Cancel _ _ (turned_cancelled {i} {j}) h = tt

@@ -1,4 +1,4 @@
--- The standard form of commands with plain signals and angles below a turn has the like.
+-- The standard form of commands with sets and with angles below a turn has the like.
 use Rattle.std.proofs.Common.{ℕ, zero, suc, ◌+◌, Bool, true, false, cond, ◌&&◌, List, [], ◌∷◌, ◌++◌, refl}
 use Rattle.std.specs.Prelude.{nat_eq, nat_lt}
 use Rattle.mc_model.specs.Numbers.{pairs_at, pairs_below}
@@ -7,84 +7,81 @@ use Rattle.mc_model.specs.Pattern.{Command, Pattern, Prep, Ent, Meas, FixX, FixZ
 use Rattle.mc_model.specs.Valid.{prepared, measured}
 use Rattle.mc_model.specs.StandardForm.{where_same, sum_over_places, x_part, x_sum, first_part, second_part, first_sum, second_sum, preparations_of, is_edge, measurements_with, fix_x, fix_z, corrections_below, standard_commands, standard_form}
 use Rattle.mc_model.proofs.SignalLemmas.{toggled_all_rising}
-use Rattle.mc_pattern.specs.Typed.{IsPlain, IsTyped, AllTyped}
+use Rattle.mc_pattern.specs.Typed.{IsSet, IsTyped, AllTyped}
 
-pub no_plain : IsPlain no_signal
-no_plain = record { is_set = tt; no_constant = refl }
+pub no_set : IsSet no_signal
+no_set = tt
 
-pub sum_plain : (s t : Signal) → IsPlain s → IsPlain t → IsPlain (signal_sum s t)
-sum_plain s t ps pt = record {
-  is_set = toggled_all_rising s.members t.members pt.is_set;
-  no_constant = rw (ps.no_constant, pt.no_constant) refl;
-}
+pub sum_set : (s t : Signal) → IsSet s → IsSet t → IsSet (signal_sum s t)
+sum_set s t ps pt = toggled_all_rising s.members t.members pt
 
-where_plain : (q r : ℕ) (s : Signal) → IsPlain s → IsPlain (where_same q r s)
-where_plain q r s p = chosen (nat_eq q r)
+where_set : (q r : ℕ) (s : Signal) → IsSet s → IsSet (where_same q r s)
+where_set q r s p = chosen (nat_eq q r)
   where
-    chosen : (b : Bool) → IsPlain (cond b s no_signal)
+    chosen : (b : Bool) → IsSet (cond b s no_signal)
     chosen true = p
-    chosen false = no_plain
+    chosen false = no_set
 
 pub typed_append : (half : ℕ) (cs ds : List Command) → AllTyped half cs → AllTyped half ds →
     AllTyped half (cs ++ ds)
 typed_append half [] ds h g = g
 typed_append half (c ∷ cs) ds h g = (h.0, typed_append half cs ds h.1 g)
 
--- a sum over places whose parts are plain
-abbrev PlainPart : ℕ → (List Command → Command → Signal) → Type 0
-PlainPart half part = (before : List Command) (c : Command) → AllTyped half before →
-    IsTyped half c → IsPlain (part before c)
+-- a sum over places whose parts are sets
+abbrev SetPart : ℕ → (List Command → Command → Signal) → Type 0
+SetPart half part = (before : List Command) (c : Command) → AllTyped half before →
+    IsTyped half c → IsSet (part before c)
 
-places_plain : (half : ℕ) (part : List Command → Command → Signal) → PlainPart half part →
+places_set : (half : ℕ) (part : List Command → Command → Signal) → SetPart half part →
     (before cs : List Command) → AllTyped half before → AllTyped half cs →
-    IsPlain (sum_over_places part before cs)
+    IsSet (sum_over_places part before cs)
 unfolding sum_over_places
-places_plain half part plain before [] b t = no_plain
-places_plain half part plain before (c ∷ cs) b t =
-    sum_plain (part before c) (sum_over_places part (before ++ (c ∷ [])) cs) (plain before c b t.0)
-    (places_plain half part plain (before ++ (c ∷ [])) cs
+places_set half part sets before [] b t = no_set
+places_set half part sets before (c ∷ cs) b t =
+    sum_set (part before c) (sum_over_places part (before ++ (c ∷ [])) cs) (sets before c b t.0)
+    (places_set half part sets (before ++ (c ∷ [])) cs
     (typed_append half before (c ∷ []) b (t.0, tt)) t.1)
 
-x_part_plain : (half q : ℕ) → PlainPart half (x_part q)
+x_part_set : (half q : ℕ) → SetPart half (x_part q)
 unfolding x_part
-x_part_plain half q before (Prep r) b t = no_plain
-x_part_plain half q before (Ent r u) b t = no_plain
-x_part_plain half q before (Meas r a s u) b t = no_plain
-x_part_plain half q before (FixX r s) b t = where_plain q r s t
-x_part_plain half q before (FixZ r s) b t = no_plain
+x_part_set half q before (Prep r) b t = no_set
+x_part_set half q before (Ent r u) b t = no_set
+x_part_set half q before (Meas r a s u) b t = no_set
+x_part_set half q before (FixX r s) b t = where_set q r s t
+x_part_set half q before (FixZ r s) b t = no_set
 
-x_plain : (half q : ℕ) (cs : List Command) → AllTyped half cs → IsPlain (x_sum q cs)
+x_set : (half q : ℕ) (cs : List Command) → AllTyped half cs → IsSet (x_sum q cs)
 unfolding x_sum
-x_plain half q cs t = places_plain half (x_part q) (x_part_plain half q) [] cs tt t
+x_set half q cs t = places_set half (x_part q) (x_part_set half q) [] cs tt t
 
-first_part_plain : (half q : ℕ) → PlainPart half (first_part q)
+first_part_set : (half q : ℕ) → SetPart half (first_part q)
 unfolding first_part
-first_part_plain half q before (Prep r) b t = no_plain
-first_part_plain half q before (Ent r u) b t = no_plain
-first_part_plain half q before (Meas r a s u) b t = where_plain q r s t.1
-first_part_plain half q before (FixX r s) b t = where_plain q r s t
-first_part_plain half q before (FixZ r s) b t = no_plain
+first_part_set half q before (Prep r) b t = no_set
+first_part_set half q before (Ent r u) b t = no_set
+first_part_set half q before (Meas r a s u) b t = where_set q r s t.1
+first_part_set half q before (FixX r s) b t = where_set q r s t
+first_part_set half q before (FixZ r s) b t = no_set
 
-second_part_plain : (half q : ℕ) → PlainPart half (second_part q)
+second_part_set : (half q : ℕ) → SetPart half (second_part q)
 unfolding second_part
-second_part_plain half q before (Prep r) b t = no_plain
-second_part_plain half q before (Ent r u) b t =
-    sum_plain (where_same q r (x_sum u before)) (where_same q u (x_sum r before))
-    (where_plain q r (x_sum u before) (x_plain half u before b))
-    (where_plain q u (x_sum r before) (x_plain half r before b))
-second_part_plain half q before (Meas r a s u) b t = where_plain q r u t.2
-second_part_plain half q before (FixX r s) b t = no_plain
-second_part_plain half q before (FixZ r s) b t = where_plain q r s t
+second_part_set half q before (Prep r) b t = no_set
+second_part_set half q before (Ent r u) b t =
+    sum_set (where_same q r (x_sum u before)) (where_same q u (x_sum r before))
+    (where_set q r (x_sum u before) (x_set half u before b))
+    (where_set q u (x_sum r before) (x_set half r before b))
+second_part_set half q before (Meas r a s u) b t = where_set q r u t.2
+second_part_set half q before (FixX r s) b t = no_set
+second_part_set half q before (FixZ r s) b t = where_set q r s t
 
-first_plain : (half : ℕ) (cs : List Command) → AllTyped half cs → (q : ℕ) →
-    IsPlain (first_sum cs q)
+first_set : (half : ℕ) (cs : List Command) → AllTyped half cs → (q : ℕ) →
+    IsSet (first_sum cs q)
 unfolding first_sum
-first_plain half cs t q = places_plain half (first_part q) (first_part_plain half q) [] cs tt t
+first_set half cs t q = places_set half (first_part q) (first_part_set half q) [] cs tt t
 
-second_plain : (half : ℕ) (cs : List Command) → AllTyped half cs → (q : ℕ) →
-    IsPlain (second_sum cs q)
+second_set : (half : ℕ) (cs : List Command) → AllTyped half cs → (q : ℕ) →
+    IsSet (second_sum cs q)
 unfolding second_sum
-second_plain half cs t q = places_plain half (second_part q) (second_part_plain half q) [] cs tt t
+second_set half cs t q = places_set half (second_part q) (second_part_set half q) [] cs tt t
 
 -- the four parts
 typed_preps : (half : ℕ) (cs : List Command) → AllTyped half (preparations_of cs)
@@ -114,11 +111,11 @@ typed_pairs half p n (suc m) =
     typed_append half (pairs_below Ent p n m) (pairs_at Ent p m n) (typed_pairs half p n m)
     (typed_pairs_at half p m n)
 
--- a plain signal for each qubit
-abbrev AllPlain : Signals → Type 0
-AllPlain ss = (q : ℕ) → IsPlain (ss q)
+-- a set for each qubit
+abbrev AllSets : Signals → Type 0
+AllSets ss = (q : ℕ) → IsSet (ss q)
 
-typed_measures : (half : ℕ) (ss ts : Signals) (cs : List Command) → AllPlain ss → AllPlain ts →
+typed_measures : (half : ℕ) (ss ts : Signals) (cs : List Command) → AllSets ss → AllSets ts →
     AllTyped half cs → AllTyped half (measurements_with ss ts cs)
 unfolding measurements_with
 typed_measures half ss ts [] s t h = tt
@@ -129,7 +126,7 @@ typed_measures half ss ts (Meas q a u w ∷ cs) s t h =
 typed_measures half ss ts (FixX q u ∷ cs) s t h = typed_measures half ss ts cs s t h.1
 typed_measures half ss ts (FixZ q u ∷ cs) s t h = typed_measures half ss ts cs s t h.1
 
-typed_fix : (half : ℕ) (gone x z : Bool) (q : ℕ) (s t : Signal) → IsPlain s → IsPlain t →
+typed_fix : (half : ℕ) (gone x z : Bool) (q : ℕ) (s t : Signal) → IsSet s → IsSet t →
     AllTyped half (cond gone [] (cond x [] (FixX q s ∷ []) ++ cond z [] (FixZ q t ∷ [])))
 typed_fix half true x z q s t ps pt = tt
 typed_fix half false true true q s t ps pt = tt
@@ -137,7 +134,7 @@ typed_fix half false true false q s t ps pt = (pt, tt)
 typed_fix half false false true q s t ps pt = (ps, tt)
 typed_fix half false false false q s t ps pt = (ps, (pt, tt))
 
-typed_fixes : (half : ℕ) (gone : ℕ → Bool) (ss ts : Signals) (n : ℕ) → AllPlain ss → AllPlain ts →
+typed_fixes : (half : ℕ) (gone : ℕ → Bool) (ss ts : Signals) (n : ℕ) → AllSets ss → AllSets ts →
     AllTyped half (corrections_below gone ss ts n)
 unfolding corrections_below
 typed_fixes half gone ss ts zero s t = tt
@@ -158,8 +155,8 @@ typed_standard half p typed =
     let es : List Command = pairs_below Ent (is_edge cs) n n in
     let ms : List Command = measurements_with ss ts cs in
     let fs : List Command = corrections_below (measured cs) ss ts n in
-    let s = first_plain half cs typed in
-    let t = second_plain half cs typed in
+    let s = first_set half cs typed in
+    let t = second_set half cs typed in
     typed_append half (preparations_of cs) (es ++ (ms ++ fs)) (typed_preps half cs)
     (typed_append half es (ms ++ fs) (typed_pairs half (is_edge cs) n n)
     (typed_append half ms fs (typed_measures half ss ts cs s t typed)

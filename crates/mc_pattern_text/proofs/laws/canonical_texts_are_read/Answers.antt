@@ -8,4 +8,4 @@ pub returns-clause-whole : goal.returns-clause-whole
 returns-clause-whole g c = λ p h. (text_read g.row.H p h c.requires).whole
 
 pub returns-clause-same : goal.returns-clause-same
-returns-clause-same g c = λ p h. text_back g.row.H p h c.requires
+returns-clause-same g c = λ p h none. text_back g.row.H p h c.requires none

@@ -9,18 +9,20 @@ returns-then-not-has-clause-value c o =
     let lacks : is_member c.self.inside.members c.args.q ≡ false =
     sym c.has.ensures.member ∙ c.if-not-has.true in
     rw (← c.self.view_is)
-    (value-lacks c.args.q (value c.args.by.now o) c.self.inside.members o lacks)
+    (value-lacks c.args.q (value c.args.by.now o) c.self.inside.constant c.self.inside.members o
+    lacks)
 
 pub returns-clause-ok : goal.returns-clause-ok
 returns-clause-ok c =
     let member : is_member c.self.inside.members c.args.q ≡ true =
     sym c.has.ensures.member ∙ c.if-not-has.false in
     rw (← c.self.view_is, ← c.by.view_is)
-    (signal-replaced c.args.q c.self.inside.members c.by.inside.members _ member
-    c.in_ok-self-inside.ensures.set)
+    (signal-replaced c.args.q c.self.inside.members c.by.inside.members _ c.self.inside.constant
+    c.by.inside.constant member c.in_ok-self-inside.ensures.set)
 
 pub returns-clause-value : goal.returns-clause-value
 returns-clause-value c o =
     rw (← c.self.view_is, ← c.by.view_is)
-    (value-replaced c.args.q c.self.inside.members c.by.inside.members _ o
-    (c.in_ok-self-inside.ensures.parity o))
+    (value-replaced c.args.q c.self.inside.members c.by.inside.members _ c.self.inside.constant
+    c.by.inside.constant o
+    (c.in_ok-self-inside.ensures.parity o c.by.inside.constant))
