@@ -7,3 +7,4 @@ pub mod NoMoreThanRows
 pub mod ReducedGrows
 pub mod RowsReduced
 pub mod RowsWritten
+pub mod UnitsByBasis

@@ -54,6 +54,18 @@ copied_more row f k b new h e g r =
     ∙ ap₂ (λ (c d : Bool). c ⊻ (d && nat_eq r k)) (h r) e
     ∙ one_more_bit f k r
 
+-- one more bit of a set that has the first bits of `f`
+pub first_more : (old new f : Bits) (k : ℕ) (b : Bool) →
+    ((r : ℕ) → old r ≡ first_bits k f r) → b ≡ f k →
+    ((r : ℕ) → new r ≡ old r ⊻ (b && nat_eq r k)) → (r : ℕ) → new r ≡ first_bits (k + 1) f r
+first_more old new f k b h e g r =
+    g r
+    ∙ ap₂ (λ (c d : Bool). c ⊻ (d && nat_eq r k)) (h r) e
+    ∙ one_more_bit f k r
+
+pub first_bit : (f : Bits) (k r : ℕ) → r < k → first_bits k f r ≡ f r
+first_bit f k r l = rw (lt-ltb r k l) refl
+
 -- all bits of a function that has none from `k` on
 pub all_first_bits : (f : Bits) (k r : ℕ) → ((r : ℕ) → k ≤ r → f r ≡ false) →
     first_bits k f r ≡ f r
