@@ -12,7 +12,8 @@ use Rattle.mc_elim.proofs.units.answer_of.Goals as goal
 pub returns-then-single : goal.returns-then-single
 returns-then-single c = (
   least_by_members (count_of c.args.basis.now)
-      (Solves c.args.basis.now.rows (count_of c.args.basis.now) (columns_of c.args.basis.now) c.args.u)
+      (Solves c.args.basis.now.rows (count_of c.args.basis.now) (columns_of c.args.basis.now)
+      c.args.u)
       (bit_of c.single.new.out) (is_member c.in_ok-members_of.field-0) c.in_ok-members_of.ensures
       (c.if-single.ensures.yes refl),
   members_below (is_member c.in_ok-members_of.field-0) (bit_of c.single.new.out)
