@@ -2,9 +2,12 @@ pub mod ListedNumbers
 pub mod Outputs
 pub mod MappedReads
 pub mod RisingEdges
-pub mod PatternGraphs
-pub mod MeasuredLists
-pub mod ZeroAmplitudes
+pub mod Joined
+pub mod Lent
+pub mod OwnVertices
 pub mod GraphScale
 pub mod KeptBranch
+pub mod PatternGraphs
 pub mod PlainGraphs
+pub mod MeasuredLists
+pub mod ZeroAmplitudes

@@ -1,5 +1,5 @@
 -- The list of the numbers that pass a test: it rises, and has those that pass.
-use Rattle.std.proofs.Common.{◌≡◌, ℕ, zero, suc, ◌+◌, ◌<◌, Bool, true, ◌&&◌, ◌∙◌, ap₂, arith}
+use Rattle.std.proofs.Common.{◌≡◌, ℕ, zero, suc, ◌+◌, ◌<◌, Bool, true, cond, ◌&&◌, [], ◌∷◌, ◌++◌, ◌∙◌, ap, ap₂, arith}
 use Rattle.std.specs.Prelude.{nat_lt, filter, All}
 use Rattle.std.proofs.lemmas.Bool.{cases_Bool, lt-ltb}
 use Rattle.std.proofs.lemmas.List.Elements.{All-nil, All-cons, All-filter, All-weaker}
@@ -7,7 +7,7 @@ use mathlib.Core.Logic.{inl, inr}
 use Rattle.mc_model.specs.Bits.{Bits}
 use Rattle.mc_model.specs.Numbers.{numbers_from, numbers_where, is_member}
 use Rattle.mc_model.specs.Signals.{AllAbove, IsRising}
-use Rattle.mc_model.proofs.NumberLists.{count-where, member_once}
+use Rattle.mc_model.proofs.NumberLists.{count-where, member_once, numbers_where-last}
 
 where_above : (p : Bits) (r q n : ℕ) → r < q → AllAbove r (filter p (numbers_from q n))
 where_above p r q zero l = tt
@@ -49,3 +49,10 @@ pub member-where-true : (p : Bits) (n k : ℕ) → k < n → p k ≡ true →
     is_member (numbers_where p n) k ≡ true
 member-where-true p n k l e =
     member-where p n k ∙ ap₂ (λ (a b : Bool). a && b) (lt-ltb k n l) e
+
+-- one more number
+pub where_more : (p : Bits) (n : ℕ) →
+    numbers_where p (n + 1) ≡ numbers_where p n ++ cond (p n) (n ∷ []) []
+where_more p n =
+    let e : n + 1 ≡ suc n = omega arith in
+    ap (numbers_where p) e ∙ numbers_where-last p n

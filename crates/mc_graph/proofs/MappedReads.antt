@@ -1,5 +1,8 @@
 -- Reads of listed values.
-use Rattle.std.proofs.Common.{◌≡◌, ℕ, zero, suc, ◌<◌, List, [], ◌∷◌, length, map, sym, ap, arith}
+use Rattle.std.proofs.Common.{◌≡◌, ℕ, zero, suc, ◌+◌, ◌<◌, List, [], ◌∷◌, ◌++◌, length, map, sym, ◌∙◌, ap, arith}
+use Rattle.std.proofs.lemmas.List.{map-append}
+use Rattle.mc_model.specs.Numbers.{numbers_from}
+use Rattle.mc_model.proofs.NumberLists.{numbers_below-last}
 use Rattle.std.specs.Prelude.{slice_index_or}
 
 pub read_mapped : {A B : Type 0} (f : A → B) (xs : List A) (i : ℕ) (x : A) (d : B) →
@@ -7,3 +10,12 @@ pub read_mapped : {A B : Type 0} (f : A → B) (xs : List A) (i : ℕ) (x : A) (
 read_mapped f [] i x d l e = absurd (omega arith)
 read_mapped f (y ∷ ys) zero x d l e = ap f (sym e)
 read_mapped f (y ∷ ys) (suc i) x d l e = read_mapped f ys i x d (omega arith) e
+
+-- one more number
+pub map_more : {A : Type 0} (f : ℕ → A) (n : ℕ) →
+    map f (numbers_from 0 (n + 1)) ≡ map f (numbers_from 0 n) ++ (f n ∷ [])
+map_more f n =
+    let e : n + 1 ≡ suc n = omega arith in
+    ap (λ (k : ℕ). map f (numbers_from 0 k)) e
+    ∙ ap (map f) (numbers_below-last n)
+    ∙ map-append f (numbers_from 0 n) (n ∷ [])

@@ -1,11 +1,12 @@
 -- What every open graph keeps, and how it lies in rows of neighbours.
-use Rattle.std.specs.Prelude.{◌≡◌, ℕ, ◌*◌, ◌<◌, List, [], map, length, IsTrue, Option, Some, slice_index_or}
+use Rattle.std.specs.Prelude.{◌≡◌, ℕ, ◌*◌, ◌<◌, List, [], map, length, IsTrue, Some, slice_index_or}
 use Rattle.mc_model.specs.Names.{Name}
 use Rattle.mc_model.specs.Numbers.{is_member, pairs_below}
 use Rattle.mc_model.specs.Steps.{is_permitted}
 use Rattle.mc_model.specs.Graph as plain
 use Rattle.mc_model.specs.Graph.{OpenGraph, Edge, edge, size, IsOpenGraph, base_angle}
 use Rattle.mc_graph.specs.declared.fixed.Fixed.{Fixed}
+use Rattle.mc_graph.specs.declared.label.Label.{Label}
 use Rattle.mc_graph.specs.Neighbours.{neighbours}
 
 -- an open graph whose angles are less than a turn, in steps of which `half` make half a turn
@@ -22,15 +23,15 @@ abbrev pub edges_of : List (List ℕ) → ℕ → List Edge
 edges_of rows n = pairs_below edge (λ v w. is_member (slice_index_or rows v []) w) n n
 
 -- an open graph by its rows
-abbrev pub graph_by : List Name → ℕ → List ℕ → List (List ℕ) → List (Option ℕ) → List Fixed →
+abbrev pub graph_by : {half : ℕ} → List Name → ℕ → List ℕ → List (List ℕ) → List (Label half) →
     OpenGraph
-graph_by names inputs outputs rows angles fixed = record {
+graph_by names inputs outputs rows labels = record {
   names = names;
   inputs = inputs;
   outputs = outputs;
   edges = edges_of rows (length names);
-  angles = angles;
-  fixed = map plain_fixed fixed;
+  angles = map (λ l. l.angle) labels;
+  fixed = map (λ l. plain_fixed l.fixed) labels;
 }
 
 -- the rows are those of the neighbours

@@ -1,3 +1,10 @@
 pub mod Laws
 pub mod Neighbours
 pub mod Graphs
+pub mod Links
+pub mod Rules
+pub mod Building
+pub mod RowLists
+pub mod Flows
+pub mod Refuters
+pub mod Kept

@@ -7,6 +7,7 @@ ghost use Rattle.mc_graph.specs.Neighbours.{neighbours as row};
 ghost use Rattle.mc_graph.specs.Graphs.{plain_fixed};
 
 use crate::fixed::Fixed;
+use crate::label::Label;
 use mc_angle::Angle;
 use mc_names::Names;
 use std::marker::Model;
@@ -19,8 +20,7 @@ pub struct OpenGraph<const H: usize> {
     pub(crate) inputs: u16,
     pub(crate) outs: Vec<u16>,
     pub(crate) rows: Vec<Vec<u16>>,
-    pub(crate) angles: Vec<Option<Angle<H>>>,
-    pub(crate) fixed: Vec<Fixed>,
+    pub(crate) labels: Vec<Label<H>>,
 }
 
 impl<const H: usize> Model for OpenGraph<H> {
@@ -31,10 +31,10 @@ impl<const H: usize> Model for OpenGraph<H> {
     ghost Value = { Plain };
 
     ghost view = { λ g.
-        graph_by g.names g.inputs g.outs.items (map (λ r. r.items) g.rows.items) g.angles.items g.fixed.items };
+        graph_by g.names g.inputs g.outs.items (map (λ r. r.items) g.rows.items) g.labels.items };
 
     ghost invariant = { λ g. IsStored H
-        (graph_by g.names g.inputs g.outs.items (map (λ r. r.items) g.rows.items) g.angles.items g.fixed.items)
+        (graph_by g.names g.inputs g.outs.items (map (λ r. r.items) g.rows.items) g.labels.items)
         (map (λ r. r.items) g.rows.items) };
 }
 
@@ -78,7 +78,7 @@ impl<const H: usize> OpenGraph<H> {
         ensures output { is_none result ≡ gives_out self.now v }
         ensures within { IfSome result (λ angle. angle < 2 * H) }
     {
-        self.angles[v as usize]
+        self.labels[v as usize].angle
     }
 
     /// Whether a vertex is an output.
@@ -104,6 +104,6 @@ impl<const H: usize> OpenGraph<H> {
         requires { v < size self.now }
         ensures { plain_fixed result ≡ fixed_at self.now v }
     {
-        self.fixed[v as usize]
+        self.labels[v as usize].fixed
     }
 }

@@ -3,12 +3,23 @@
 //! An open graph is seen as the model's record of names, inputs, outputs, edges, base angles and fixed corrections.
 #![tactic(auto)]
 
+mod end;
 mod fixed;
+mod flow;
 mod graph;
+mod label;
 mod laws;
+mod links;
+mod refuter;
+mod stuck;
 
+pub use end::RowEnd;
 pub use fixed::Fixed;
+pub use flow::{FlowRow, GFlow};
 pub use graph::OpenGraph;
 pub use laws::{graphs_keep_zero_branch, graphs_without_constants};
 pub use mc_angle::Angle;
 pub use mc_names::{Name, Names};
+pub use mc_signal::QSet;
+pub use refuter::Refuter;
+pub use stuck::Stuck;

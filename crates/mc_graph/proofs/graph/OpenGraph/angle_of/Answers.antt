@@ -1,17 +1,21 @@
-use Rattle.std.proofs.Common.{◌∙◌, sym, ap}
-use Rattle.std.specs.Prelude.{is_none, Option, None, unwrap_or}
-use Rattle.std.proofs.lemmas.Option.{slice_get_read}
+use Rattle.std.proofs.Common.{map, sym, ◌∙◌, ap, arith}
+use Rattle.std.specs.Prelude.{is_none, None}
+use Rattle.std.proofs.lemmas.List.{length-map}
+use Rattle.std.proofs.lemmas.Option.{unwrap_or-slice_get}
+use Rattle.mc_graph.proofs.MappedReads.{read_mapped}
 use Rattle.mc_graph.proofs.Outputs.{output_without_angle, angle_within}
 use Rattle.mc_graph.proofs.graph.OpenGraph.angle_of.Goals as goal
 
 pub returns-clause-angle : goal.returns-clause-angle
 returns-clause-angle g c =
+    let labels = c.self.inside.labels.items in
     let within = rw (← c.self.view_is) at c.requires in
     let long = c.self.invariant.graph.open_graph.angles in
+    let many = length-map labels (λ l. l.angle) in
     rw (← c.self.view_is)
-    (sym (ap (λ (o : Option _). unwrap_or o None)
-    (slice_get_read c.self.inside.angles.items _ c.args.v c.index.result.now (sym long) within
-    c.index.ensures)))
+    (sym (unwrap_or-slice_get (map (λ l. l.angle) labels) c.args.v None
+    ∙ read_mapped (λ l. l.angle) labels c.args.v c.index.result.now None (omega arith)
+    c.index.ensures))
 
 pub returns-clause-output : goal.returns-clause-output
 returns-clause-output g c =
@@ -22,5 +26,4 @@ returns-clause-output g c =
 pub returns-clause-within : goal.returns-clause-within
 returns-clause-within g c =
     let valid = rw c.self.view_is at c.self.invariant.graph in
-    angle_within _ c.args.self.now c.args.v c.index.result.now valid
-    (sym (returns-clause-angle g c))
+    angle_within _ c.args.self.now c.args.v _ valid (sym (returns-clause-angle g c))
