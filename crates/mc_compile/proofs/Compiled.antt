@@ -19,7 +19,7 @@ use Rattle.mc_translate.specs.Qubits.{qubit_count}
 use Rattle.mc_translate.specs.Laws.{TranslationKeepsTable, TranslationScale, TranslationsAreValid, TranslationsHaveNoConstants}
 use Rattle.mc_graph.specs.Laws.{GraphsKeepZeroBranch, GraphsWithoutConstants}
 use Rattle.mc_make.specs.Laws.{ChosenFlowsAreFlows, ChosenFlowsAreLeastDeep, FlowPatternsAreMade, FlowPatternsHaveNoConstants, ChosenPatternsHaveNoSecondSignals, DependenceWithinLayers}
-use Rattle.mc_standard.specs.Laws.{StandardIsStandard, StandardIsAlike, StandardKeepsZeroBranch}
+use Rattle.mc_rules.specs.Laws.{StandardIsStandard, StandardIsAlike, StandardKeepsZeroBranch}
 use Rattle.mc_shift.specs.Laws.{NoSecondSignalsNoShift}
 use Rattle.mc_compile.specs.Laws.{HasTable, IsCompiled, circuit_graph, CompiledCircuits}
 

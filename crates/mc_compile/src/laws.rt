@@ -8,7 +8,7 @@ use mc_make::{
     dependence_within_layers, flow_patterns_are_made, flow_patterns_have_no_constants,
 };
 use mc_shift::no_second_signals_no_shift;
-use mc_standard::{standard_is_alike, standard_is_standard, standard_keeps_zero_branch};
+use mc_rules::{standard_is_alike, standard_is_standard, standard_keeps_zero_branch};
 use mc_translate::{
     translation_has_scale, translation_keeps_table, translations_are_valid,
     translations_have_no_constants,

@@ -7,8 +7,7 @@ use Rattle.mc_model.specs.Valid.{measured, IsValidPattern}
 use Rattle.mc_model.specs.Graph.{OpenGraph, is_output, graph_of, zero_pattern}
 use Rattle.mc_model.proofs.AnyOrder.{same_length}
 use Rattle.mc_model.proofs.Scales.{zero_scale}
-use Rattle.mc_standard.proofs.RunningSums.{InPlace}
-use Rattle.mc_standard.proofs.InPlaceLemmas.{valid_in_place}
+use Rattle.mc_model.proofs.ValidInPlace.{InPlace, valid_in_place}
 use Rattle.mc_graph.proofs.MeasuredLists.{measured_list, measured_once, halvings-listed}
 use Rattle.mc_graph.proofs.PatternGraphs.{measured_vertices}
 

@@ -10,8 +10,7 @@ use Rattle.mc_model.specs.Amplitude.{halvings}
 use Rattle.mc_model.specs.Valid.{prepared, measured}
 use Rattle.mc_model.specs.Graph.{angle_in}
 use Rattle.mc_model.proofs.NumberLists.{count-first}
-use Rattle.mc_standard.proofs.PlaceSums.{AllMiss}
-use Rattle.mc_standard.proofs.RunningSums.{InPlace, missed_unmeasured}
+use Rattle.mc_model.proofs.ValidInPlace.{AllMiss, InPlace, missed_unmeasured}
 
 unfoldable pub measured_list : List Command → List ℕ
 measured_list [] = []

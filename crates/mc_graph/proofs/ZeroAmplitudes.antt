@@ -21,9 +21,8 @@ use Rattle.mc_model.proofs.AmplitudeLemmas.{after-append, after-preparations}
 use Rattle.mc_model.proofs.OddSums.{and_false}
 use Rattle.mc_model.proofs.NumberLists.{numbers_below-last}
 use Rattle.mc_model.proofs.AnyOrder.{commands_in_any_order}
-use Rattle.mc_standard.proofs.RunningSums.{InPlace}
-use Rattle.mc_standard.proofs.InPlaceLemmas.{valid_in_place}
-use Rattle.mc_standard.proofs.StandardAlike.{fix_x_acts, fix_z_acts, preparations_act}
+use Rattle.mc_model.proofs.ValidInPlace.{InPlace, valid_in_place}
+use Rattle.mc_model.proofs.CorrectionsAct.{fix_x_acts, fix_z_acts, preparations_act}
 use Rattle.mc_graph.proofs.MeasuredLists.{measured_list, HaveAngles, have_angles, measured_once}
 use Rattle.mc_graph.proofs.PatternGraphs.{angle_of_vertex, fixed_of_vertex, measured_vertices}
 
@@ -134,7 +133,7 @@ module _ {E : Type 0} (ops : PhaseOps E) (laws : PhaseLaws ops) where
       after ops all_zero (fix_x q s) f
       ≡ after ops all_zero (cond s.constant (FixX q one_signal ∷ []) []) f
   fixed_x q s f = fun_ext λ x.
-      fix_x_acts ops laws all_zero q s f x
+      fix_x_acts ops all_zero q s f x
       ∙ ap (λ (b : Bool). f (replaced x q (x q ⊻ b))) (zero_value s)
       ∙ constant_x q s.constant f x
 
@@ -142,7 +141,7 @@ module _ {E : Type 0} (ops : PhaseOps E) (laws : PhaseLaws ops) where
       after ops all_zero (fix_z q s) f
       ≡ after ops all_zero (cond s.constant (FixZ q one_signal ∷ []) []) f
   fixed_z q s f = fun_ext λ x.
-      fix_z_acts ops laws all_zero q s f x
+      fix_z_acts ops all_zero q s f x
       ∙ ap (λ (b : Bool). sign ops (x q && b) (f x)) (zero_value s)
       ∙ constant_z q s.constant f x
 
@@ -199,7 +198,7 @@ module _ {E : Type 0} (ops : PhaseOps E) (laws : PhaseLaws ops) where
       let measures : List Command = measurements_with (first_sum cs) (second_sum cs) cs in
       let corrections : ℕ → List Command =
       λ k. corrections_below (measured cs) (first_sum cs) (second_sum cs) k in
-      preparations_act ops laws o cs (edges ++ (measures ++ corrections m)) f
+      preparations_act ops o cs (edges ++ (measures ++ corrections m)) f
       ∙ after-append ops laws o edges (measures ++ corrections m) f
       ∙ after-append ops laws o measures (corrections m) (after ops o edges f)
       ∙ ap (λ (k : ℕ). after ops o (corrections k)

@@ -2,10 +2,15 @@
 
 ghost use Rattle.mc_graph.specs.Laws.{GraphsKeepZeroBranch, GraphsWithoutConstants};
 
+use mc_rules::{standard_is_alike, standard_keeps_zero_branch};
+
 /// The graph of a pattern is an open graph, whose pattern has the pattern's zero branch up to one phase, and exactly where no signal has the constant.
 pub fn graphs_keep_zero_branch()
     ensures { GraphsKeepZeroBranch }
-{}
+{
+    standard_is_alike();
+    standard_keeps_zero_branch();
+}
 
 /// Where no signal has the constant, the graph has the base angles and no fixed corrections.
 pub fn graphs_without_constants()

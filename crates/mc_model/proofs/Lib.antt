@@ -20,3 +20,6 @@ pub mod AnyOrder
 pub mod Scales
 pub mod FixedGates
 pub mod DepthBounds
+pub mod ValidInPlace
+pub mod SignalValues
+pub mod CorrectionsAct

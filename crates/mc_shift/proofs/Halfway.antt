@@ -8,8 +8,8 @@ use Rattle.mc_model.specs.Valid.{measured}
 use Rattle.mc_model.specs.Shift.{ChangeRow, change_of, IsShifted}
 use Rattle.mc_model.proofs.SignalLemmas.{reset}
 use Rattle.mc_model.proofs.ValidLemmas.{next_measured}
-use Rattle.mc_standard.proofs.InParts.{AllOf}
-use Rattle.mc_standard.specs.Parts.{part_of}
+use Rattle.mc_rules.specs.Parts.{AllOf}
+use Rattle.mc_rules.specs.Parts.{part_of}
 use Rattle.mc_shift.specs.Shifts.{IsPutIn, IsFixPutIn, TellsOld}
 use Rattle.mc_shift.proofs.PutIn.{signal_put, tells_more}
 use Rattle.mc_shift.proofs.Places.{IsMeasured, FixDone}

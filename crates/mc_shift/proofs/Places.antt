@@ -11,8 +11,9 @@ use Rattle.mc_model.specs.Valid.{prepared, measured, AllDone, IsValid}
 use Rattle.mc_model.specs.StandardForm.{preparations_of}
 use Rattle.mc_model.specs.Shift.{ChangeRow, new_outcomes, change_of}
 use Rattle.mc_model.proofs.ValidLemmas.{measured-append, prepared-append}
-use Rattle.mc_standard.specs.Parts.{IsStandardForm, IsInParts, entanglings_of, measurements_of, corrections_of}
-use Rattle.mc_standard.proofs.InParts.{AllOf, part_of_all, preparations_part}
+use Rattle.mc_rules.specs.Parts.{IsInParts, entanglings_of, measurements_of, corrections_of}
+use Rattle.mc_standard.specs.StandardForms.{IsStandardForm}
+use Rattle.mc_rules.specs.Parts.{AllOf}
 use Rattle.mc_shift.proofs.Changed.{changed_by}
 
 -- only measurements measure
@@ -118,9 +119,6 @@ fix_place inputs cs ps es ms fs rest (Prep q) v p e f same = tt
 fix_place inputs cs ps es ms fs rest (Ent q r) v p e f same = tt
 fix_place inputs cs ps es ms fs rest (Meas q a s t) v p e f same = tt
 
-pub all_preps : (cs : List Command) → AllOf 0 (preparations_of cs)
-all_preps cs = subst (AllOf 0) (sym (preparations_part cs)) (part_of_all 0 cs)
-
 front_all : (k : ℕ) (cs ds : List Command) → AllOf k (cs ++ ds) → AllOf k cs
 front_all k [] ds h = tt
 front_all k (c ∷ cs) ds h = (h.0, front_all k cs ds h.1)
@@ -140,8 +138,8 @@ measured_here half p ms rest i a s t h parts place =
     let few = valid.names.few in
     let found =
     measured_place p.inputs (p.inputs + prepared cs) cs ps es ms rest fs i a s t valid.commands refl
-    (all_preps cs) (part_of_all 1 cs)
-    (parts ∙ ap (λ (xs : List Command). ps ++ (es ++ (xs ++ fs))) place) in
+    parts.preparations parts.entanglings
+    (parts.whole ∙ ap (λ (xs : List Command). ps ++ (es ++ (xs ++ fs))) place) in
     let there = found.there in
     record {
       there = omega arith;
@@ -159,10 +157,10 @@ fix_here half p fs rest c h parts place =
     let ps : List Command = preparations_of cs in
     let es : List Command = entanglings_of cs in
     let ms : List Command = measurements_of cs in
-    fix_place p.inputs cs ps es ms fs rest c h.pattern.valid.commands (all_preps cs)
-    (part_of_all 1 cs)
-    (front_all 3 fs (c ∷ rest) (subst (AllOf 3) place (part_of_all 3 cs)))
-    (parts ∙ ap (λ (xs : List Command). ps ++ (es ++ (ms ++ xs))) place)
+    fix_place p.inputs cs ps es ms fs rest c h.pattern.valid.commands parts.preparations
+    parts.entanglings
+    (front_all 3 fs (c ∷ rest) (subst (AllOf 3) place parts.corrections))
+    (parts.whole ∙ ap (λ (xs : List Command). ps ++ (es ++ (ms ++ xs))) place)
 
 -- ---- a list that is walked by an index
 

@@ -9,31 +9,20 @@ use Rattle.mc_model.specs.Pattern.{Command, Prep, Ent, Meas, FixX, FixZ, Pattern
 use Rattle.mc_model.specs.Valid.{prepared, IsValid, IsValidPattern}
 use Rattle.mc_model.specs.StandardForm.{preparations_of, standard_commands, standard_form}
 use Rattle.mc_model.specs.Shift.{ChangeRow, new_outcomes, change_of, IsShiftedSignal, IsShifted, IsShiftedForm}
-use Rattle.mc_model.proofs.SignalLemmas.{reset}
+use Rattle.mc_model.proofs.SignalLemmas.{reset, toggled_all_rising}
+use Rattle.mc_model.proofs.ValidInPlace.{WellMade, InPlace, valid_in_place}
+use Rattle.mc_model.proofs.SignalValues.{same_signals, empty_signal}
 use Rattle.mc_pattern.specs.Typed.{IsSet, AllTyped}
-use Rattle.mc_standard.specs.Parts.{IsStandardForm, IsInParts, entanglings_of, measurements_of, corrections_of, with_signals}
-use Rattle.mc_standard.proofs.RunningSums.{WellMade, InPlace, same_signals}
-use Rattle.mc_standard.proofs.InPlaceLemmas.{valid_in_place}
-use Rattle.mc_standard.specs.Settled.{IsTidy, Follows, FirstFollows, IsSettled}
-use Rattle.mc_standard.proofs.Settles.{improves_or_settled}
-use Rattle.mc_standard.proofs.SettledForm.{settled_is_standard}
-use Rattle.mc_standard.proofs.Derives.{standard_stays}
-use Rattle.mc_standard.proofs.InParts.{part_of_all}
-use Rattle.mc_standard.proofs.StandardTyped.{no_set, sum_set}
+use Rattle.mc_rules.specs.Parts.{IsInParts, entanglings_of, measurements_of, corrections_of, with_signals}
+use Rattle.mc_standard.specs.StandardForms.{IsStandardForm}
+use Rattle.mc_rules.specs.Laws.{SettledIsStandard}
+use Rattle.mc_rules.specs.Settled.{IsTidy, Follows, FirstFollows, IsSettled}
 use Rattle.mc_shift.specs.Shifted.{expanded, shifted_signal, shifted, none_yet, shifted_form}
 use Rattle.mc_shift.proofs.ShiftedForm.{form_exists, form_unique}
 use Rattle.mc_shift.proofs.ShiftedValid.{shifted_forms_valid}
-use Rattle.mc_shift.proofs.Places.{all_preps}
 use Rattle.mc_shift.proofs.Halfway.{shifted_append, shifted_front}
 
 -- ---- a signal that is not empty stays so
-
-empty_value : (ms : List ℕ) (c : Bool) (o : Bits) → (is_nil ms && not c) ≡ true →
-    c ⊻ parity ms o ≡ false
-unfolding parity
-empty_value [] false o e = refl
-empty_value [] true o e = absurd (false≢true e)
-empty_value (q ∷ qs) c o e = absurd (false≢true e)
 
 none_value : (o : Bits) → value no_signal o ≡ false
 unfolding value parity
@@ -45,7 +34,7 @@ unfolding value
 stays_empty rows s s' h rising e =
     same_signals s no_signal rising tt (λ o.
     sym (h.same_value o)
-    ∙ empty_value s'.members s'.constant (new_outcomes rows o) e
+    ∙ empty_signal (new_outcomes rows o) s' e
     ∙ sym (none_value o))
 
 stays_full : (rows : List ChangeRow) (s s' : Signal) → IsShiftedSignal rows s s' →
@@ -159,32 +148,23 @@ settled_shifted n rows (c ∷ cs) (d ∷ ds) p h s =
 settled_shifted n rows [] (d ∷ ds) p h s = absurd h
 settled_shifted n rows (c ∷ cs) [] p h s = tt
 
--- a valid list that is its own standard form is settled
-own_settled : (inputs : ℕ) (cs : List Command) → IsValid inputs cs →
-    standard_commands inputs cs ≡ cs → IsSettled cs
-own_settled inputs cs v own = elim (improves_or_settled inputs cs v) [
-  | inl w ↦ absurd (standard_stays inputs cs v own w)
-  | inr s ↦ s
-]
-
-shifted_own : (p q : Pattern) → IsValidPattern p → standard_form p ≡ p → IsShiftedForm p q →
+shifted_own : SettledIsStandard → (p q : Pattern) → IsValidPattern p → standard_form p ≡ p → IsShiftedForm p q →
     standard_form q ≡ q
 unfolding standard_form
-shifted_own p q valid own form =
+shifted_own law p q valid own form =
     let n : ℕ = p.inputs + prepared p.commands in
     let place : InPlace n p.commands =
     valid_in_place p.inputs n [] p.commands valid.commands (omega arith) in
     let settled : IsSettled q.commands =
     settled_shifted n (change_of p.commands) p.commands q.commands place form.commands
-    (own_settled p.inputs p.commands valid.commands (ap (λ (r : Pattern). r.commands) own)) in
+    ((law p.inputs p.commands valid.commands).1 (ap (λ (r : Pattern). r.commands) own)) in
     ap (λ (cs : List Command). record {
       names = q.names;
       inputs = q.inputs;
       outputs = q.outputs;
       commands = cs;
     })
-    (settled_is_standard q.inputs q.commands
-    (shifted_forms_valid p q valid form).valid.commands settled)
+    ((law q.inputs q.commands (shifted_forms_valid p q valid form).valid.commands).0 settled)
 
 -- ---- the shifted form is a pattern of the code
 
@@ -203,15 +183,12 @@ length-shifted rows cs ds h = absurd h
 abbrev AllSets : Signals → Type 0
 AllSets d = (q : ℕ) → IsSet (d q)
 
-one_set : (q : ℕ) → IsSet (signal_of q)
-one_set q = (tt, tt)
-
 expanded_set : (d : Signals) (qs : List ℕ) → AllSets d → IsSet (expanded d qs)
 unfolding expanded
-expanded_set d [] sets = no_set
+expanded_set d [] sets = tt
 expanded_set d (q ∷ qs) sets =
-    sum_set (signal_sum (signal_of q) (d q)) (expanded d qs)
-    (sum_set (signal_of q) (d q) (one_set q) (sets q)) (expanded_set d qs sets)
+    toggled_all_rising (signal_sum (signal_of q) (d q)).members (expanded d qs).members
+    (expanded_set d qs sets)
 
 signal_set : (d : Signals) (s : Signal) → AllSets d → IsSet s → IsSet (shifted_signal d s)
 signal_set d s sets one = expanded_set d s.members sets
@@ -231,7 +208,7 @@ typed_shifted half d (FixX q s ∷ cs) sets t =
 typed_shifted half d (FixZ q s ∷ cs) sets t =
     (signal_set d s sets t.0, typed_shifted half d cs sets t.1)
 typed_shifted half d (Meas i a s u ∷ cs) sets t = (
-  (t.0.0, signal_set d s sets t.0.1, no_set),
+  (t.0.0, signal_set d s sets t.0.1, tt),
   typed_shifted half (reset d i (shifted_signal d u)) cs
       (reset_set d i (shifted_signal d u) sets (signal_set d u sets t.0.2)) t.1,
 )
@@ -242,11 +219,11 @@ unfolding shifted_form
 form_typed half p q valid typed form =
     subst (λ (r : Pattern). AllTyped half r.commands)
     (sym (form_unique p q (shifted_form p) valid form (form_exists p valid)))
-    (typed_shifted half none_yet p.commands (λ k. no_set) typed)
+    (typed_shifted half none_yet p.commands (λ k. tt) typed)
 
-pub shifted_standard : (half : ℕ) (p q : Pattern) → IsStandardForm half p → IsShiftedForm p q →
-    IsStandardForm half q
-shifted_standard half p q h form =
+pub shifted_standard : SettledIsStandard → (half : ℕ) (p q : Pattern) → IsStandardForm half p →
+    IsShiftedForm p q → IsStandardForm half q
+shifted_standard law half p q h form =
     let few = h.pattern.few in
     let size = length-shifted (change_of p.commands) p.commands q.commands form.commands in
     record {
@@ -255,7 +232,7 @@ shifted_standard half p q h form =
         few = omega arith;
         typed = form_typed half p q h.pattern.valid h.pattern.typed form;
       };
-      own = shifted_own p q h.pattern.valid h.own form;
+      own = shifted_own law p q h.pattern.valid h.own form;
     }
 
 -- ---- the parts together
@@ -274,10 +251,10 @@ shifted_parts p ms fs parts measures fixes =
       inputs = refl;
       outputs = refl;
       commands =
-          subst (λ (xs : List Command). IsShifted rows xs (ps ++ (es ++ (ms ++ fs)))) (sym parts)
+          subst (λ (xs : List Command). IsShifted rows xs (ps ++ (es ++ (ms ++ fs)))) (sym parts.whole)
           (shifted_append rows ps ps (es ++ (measurements_of cs ++ corrections_of cs))
-          (es ++ (ms ++ fs)) (shifted_front rows 0 ps (omega arith) (all_preps cs))
+          (es ++ (ms ++ fs)) (shifted_front rows 0 ps (omega arith) parts.preparations)
           (shifted_append rows es es (measurements_of cs ++ corrections_of cs) (ms ++ fs)
-          (shifted_front rows 1 es (omega arith) (part_of_all 1 cs))
+          (shifted_front rows 1 es (omega arith) parts.entanglings)
           (shifted_append rows (measurements_of cs) ms (corrections_of cs) fs measures fixes)));
     }

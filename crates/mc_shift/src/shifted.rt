@@ -7,13 +7,15 @@ ghost use Rattle.mc_model.specs.Pattern.{Pattern};
 ghost use Rattle.mc_model.specs.Amplitude.{branch_map};
 ghost use Rattle.mc_model.specs.Valid.{measured};
 ghost use Rattle.mc_model.specs.Shift.{change_of, new_outcomes, IsShifted, IsShiftedForm};
-ghost use Rattle.mc_standard.specs.Parts.{measurements_of, corrections_of, IsInParts, IsStandardForm};
+ghost use Rattle.mc_rules.specs.Parts.{measurements_of, corrections_of, IsInParts};
+ghost use Rattle.mc_standard.specs.StandardForms.{IsStandardForm};
 ghost use Rattle.mc_standard.specs.Plain.{plain_measure, plain_fix};
 ghost use Rattle.mc_shift.specs.Laws.{IsValidShiftedForm};
 ghost use Rattle.mc_shift.specs.Shifts.{signals_of, IsPutIn, IsFixPutIn, TellsOld};
 
 use mc_model::Memory;
 use mc_pattern::Change;
+use mc_rules::settled_is_standard;
 use mc_signal::Signal;
 use mc_standard::{Fix, Measure, Standard};
 use std::alloc::Global;
@@ -144,8 +146,9 @@ pub fn shift<const H: usize>(
         branch_map (ring half) p.now o y b
         ≡ branch_map (ring half) shifted.0 (new_outcomes (change_of p.now.commands) o) y b) }
 {
-    // the proof needs that the pattern is its own standard form
+    // the proof needs that the pattern is its own standard form, and what that tells of its list
     let _names = p.names();
+    settled_is_standard();
     let mut shifts = no_shifts(alloc)?;
     let mut change = Change::new(alloc);
     let measures = shift_measures(alloc, p, &mut shifts, &mut change)?;

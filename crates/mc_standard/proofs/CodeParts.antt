@@ -7,7 +7,7 @@ use Rattle.mc_standard.specs.declared.standard.Measure.{Measure}
 use Rattle.mc_standard.specs.declared.standard.Fix.{Fix}
 use Rattle.mc_standard.specs.declared.standard.Fix.TheVariants as fix
 use Rattle.mc_pattern.specs.Patterns.{begun, with_outputs}
-use Rattle.mc_standard.specs.Parts.{HasParts, IsInParts, with_signals}
+use Rattle.mc_rules.specs.Parts.{HasParts, IsInParts, with_signals}
 use Rattle.mc_standard.specs.Plain.{plain_edge, plain_measure, plain_fix, in_parts}
 use Rattle.mc_standard.proofs.InParts.{has_parts, all_of_map, in_parts_by}
 

@@ -9,10 +9,11 @@ use Rattle.mc_model.specs.Valid.{prepared, measured}
 use Rattle.mc_model.specs.StandardForm.{preparations_of, is_edge, measurements_with, fix_x, fix_z, corrections_below, first_sum, second_sum, standard_commands, standard_form}
 use Rattle.mc_pattern.specs.Patterns.{begun, with_outputs}
 use Rattle.mc_standard.specs.declared.standardisation.Parts.{Parts}
-use Rattle.mc_standard.specs.Parts.{HasParts, IsInParts, entanglings_of, measurements_of, corrections_of}
+use Rattle.mc_rules.specs.Parts.{HasParts, IsInParts, entanglings_of, measurements_of, corrections_of}
 use Rattle.mc_standard.specs.Plain.{plain_edge, plain_measure, plain_fix, in_parts}
 use Rattle.mc_standard.specs.Cut.{AreParts}
-use Rattle.mc_standard.proofs.InParts.{AllOf, all_of_append, has_parts, in_parts_by}
+use Rattle.mc_rules.specs.Parts.{AllOf}
+use Rattle.mc_standard.proofs.InParts.{all_of_append, has_parts, in_parts_by}
 
 all_preps : (cs : List Command) → AllOf 0 (preparations_of cs)
 unfolding preparations_of
@@ -93,7 +94,7 @@ cut_whole : (h : ℕ) (parts : Parts h) (cs : List Command) → IsInParts cs →
     in_parts parts.preps.items parts.edges.items parts.measures.items parts.fixes.items ≡ cs
 cut_whole h parts cs whole are =
     sym
-    (whole
+    (whole.whole
     ∙ four_same (preparations_of cs) (entanglings_of cs) (measurements_of cs) (corrections_of cs)
     (map Prep parts.preps.items) (map plain_edge parts.edges.items)
     (map (plain_measure {h = h}) parts.measures.items) (map plain_fix parts.fixes.items)

@@ -1,6 +1,7 @@
 -- Lists of commands made of four parts, one after the other.
-use Rattle.std.proofs.Common.{◌≡◌, ℕ, List, [], ◌∷◌, ◌++◌, map, refl, sym, ◌∙◌, ap, ap₂, append-nil, arith}
-use Rattle.std.specs.Prelude.{nat_eq, ⊤}
+use Rattle.std.proofs.Common.{◌≡◌, ℕ, List, [], ◌∷◌, ◌++◌, map, refl, sym, ◌∙◌, ap, ap₂, subst,
+    append-nil, arith}
+use Rattle.std.specs.Prelude.{nat_eq}
 use Rattle.std.proofs.lemmas.Bool.{eq-eqb, ne_eqb, cases_eq}
 use mathlib.Core.Logic.{inl, inr}
 use Rattle.std.proofs.lemmas.List.Elements.{filter-append}
@@ -8,12 +9,8 @@ use Rattle.mc_model.specs.Signals.{Signal}
 use Rattle.mc_model.specs.Pattern.{Command, Prep, Ent, Meas, FixX, FixZ}
 use Rattle.mc_model.specs.StandardForm.{preparations_of}
 use Rattle.mc_model.specs.Derivation.{part}
-use Rattle.mc_standard.specs.Parts.{part_of, entanglings_of, measurements_of, corrections_of, HasParts, IsInParts}
-
--- each command of the list is of one part
-abbrev pub AllOf : ℕ → List Command → Type 0
-AllOf k [] = ⊤
-AllOf k (c ∷ cs) = (part c ≡ k) × AllOf k cs
+use Rattle.mc_rules.specs.Parts.{part_of, entanglings_of, measurements_of, corrections_of, HasParts,
+    AllOf, IsInParts}
 
 pub all_of_map : {A : Type 0} (k : ℕ) (f : A → Command) → ((x : A) → part (f x) ≡ k) →
     (xs : List A) → AllOf k (map f xs)
@@ -34,7 +31,7 @@ none_taken k j [] h apart = refl
 none_taken k j (c ∷ cs) h apart =
     rw (ne_eqb (part c) k (λ e. apart (sym h.0 ∙ e))) (none_taken k j cs h.1 apart)
 
-pub preparations_part : (cs : List Command) → preparations_of cs ≡ part_of 0 cs
+preparations_part : (cs : List Command) → preparations_of cs ≡ part_of 0 cs
 unfolding preparations_of
 preparations_part [] = refl
 preparations_part (Prep q ∷ cs) =
@@ -97,13 +94,27 @@ has_parts ps es ms fs p e m f = record {
       (all_taken 3 fs f);
 }
 
+-- the commands that are taken for a part are of that part
+part_of_all : (k : ℕ) (cs : List Command) → AllOf k (part_of k cs)
+part_of_all k [] = tt
+part_of_all k (c ∷ cs) = elim (cases_eq (part c) k) [
+  | inl e ↦ rw (eq-eqb (part c) k e) (e, part_of_all k cs)
+  | inr ne ↦ rw (ne_eqb (part c) k ne) (part_of_all k cs)
+]
+
 pub in_parts_by : (ps es ms fs cs : List Command) → HasParts ps es ms fs cs →
     cs ≡ ps ++ (es ++ (ms ++ fs)) → IsInParts cs
-in_parts_by ps es ms fs cs h e =
-    e
-    ∙ four_are ps es ms fs (preparations_of cs) (entanglings_of cs) (measurements_of cs)
-    (corrections_of cs) (sym h.preparations) (sym h.entanglings) (sym h.measurements)
-    (sym h.corrections)
+in_parts_by ps es ms fs cs h e = record {
+  whole =
+      e
+      ∙ four_are ps es ms fs (preparations_of cs) (entanglings_of cs) (measurements_of cs)
+      (corrections_of cs) (sym h.preparations) (sym h.entanglings) (sym h.measurements)
+      (sym h.corrections);
+  preparations = subst (AllOf 0) (sym (preparations_part cs)) (part_of_all 0 cs);
+  entanglings = part_of_all 1 cs;
+  measurements = part_of_all 2 cs;
+  corrections = part_of_all 3 cs;
+}
 
 -- one more command
 part_more : (k : ℕ) (cs : List Command) (c : Command) →
@@ -198,11 +209,3 @@ parts_with_z ps es ms fs cs q s h =
       measurements = part_stays 2 cs c refl ∙ h.measurements;
       corrections = part_grows 3 cs c refl ∙ behind (corrections_of cs) fs c h.corrections;
     }
-
--- the commands that are taken for a part are of that part
-pub part_of_all : (k : ℕ) (cs : List Command) → AllOf k (part_of k cs)
-part_of_all k [] = tt
-part_of_all k (c ∷ cs) = elim (cases_eq (part c) k) [
-  | inl e ↦ rw (eq-eqb (part c) k e) (e, part_of_all k cs)
-  | inr ne ↦ rw (ne_eqb (part c) k ne) (part_of_all k cs)
-]

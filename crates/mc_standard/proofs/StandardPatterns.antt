@@ -3,15 +3,10 @@ use Rattle.std.proofs.Common.{◌≡◌, ℕ, false, List, Some, None, refl, sym
 use Rattle.std.specs.Prelude.{Option, is_some}
 use Rattle.mc_model.specs.Pattern.{Command, Pattern}
 use Rattle.mc_model.specs.StandardForm.{standard_commands, standard_form}
-use Rattle.mc_model.specs.Ring.{ring}
-use Rattle.mc_model.proofs.RingLemmas.{ring_laws}
-use Rattle.mc_model.proofs.AlikeLemmas.{alike_branches}
 use Rattle.mc_pattern.specs.Patterns.{IsPattern}
-use Rattle.mc_standard.specs.Laws.{StandardIsAlike}
-use Rattle.mc_standard.specs.Parts.{IsStandardForm}
-use Rattle.mc_standard.proofs.KeptPatterns.{standardised}
-use Rattle.mc_standard.proofs.StandardAlike.{standard_alike}
-use Rattle.mc_standard.proofs.StandardSize.{few_standard}
+use Rattle.mc_standard.specs.StandardForms.{IsStandardForm}
+use Rattle.mc_rules.proofs.DerivationsKeep.{standardised}
+use Rattle.mc_rules.proofs.StandardSize.{few_standard}
 use Rattle.mc_standard.proofs.StandardTyped.{typed_standard}
 
 pub standard_pattern : (half : ℕ) (p : Pattern) → IsPattern half p →
@@ -43,12 +38,3 @@ reached p r same own =
 pub none_there : {A : Type 0} (o : Option A) → false ≡ is_some o → o ≡ None
 none_there None e = refl
 none_there (Some x) e = absurd (cc e)
-
--- whatever the outcomes, the branch map of a pattern is that of its standard form up to one phase
-pub pattern_alike : StandardIsAlike
-unfolding standard_form
-pattern_alike half positive p v o =
-    let laws = ring_laws half positive in
-    alike_branches (ring half) laws p.names p.names p.inputs p.outputs o
-    p.commands (standard_commands p.inputs p.commands)
-    (standard_alike (ring half) laws o p.inputs p.commands v.commands)

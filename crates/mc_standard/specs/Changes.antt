@@ -5,7 +5,7 @@ use Rattle.mc_model.specs.Derivation.{Rewrites, part, is_wrong, is_turned}
 use Rattle.mc_standard.specs.declared.change.Change.{Change}
 use Rattle.mc_standard.specs.declared.change.Change.TheVariants as change
 use Rattle.mc_standard.specs.declared.change.Rewrite.{Rewrite}
-use Rattle.mc_standard.specs.Passing.{MayPass}
+use Rattle.mc_rules.specs.Passing.{MayPass}
 use Rattle.mc_standard.specs.Uses.{plain_rule}
 use Rattle.mc_pattern.specs.Commands.{plain_command}
 

@@ -2,7 +2,7 @@
 use Rattle.std.specs.Prelude.{ℕ, List, map}
 use Rattle.mc_model.specs.Pattern.{Command, Prep}
 use Rattle.mc_standard.specs.declared.standardisation.Parts.{Parts}
-use Rattle.mc_standard.specs.Parts.{HasParts}
+use Rattle.mc_rules.specs.Parts.{HasParts}
 use Rattle.mc_standard.specs.Plain.{plain_edge, plain_measure, plain_fix}
 
 -- the parts of the code are those of the list

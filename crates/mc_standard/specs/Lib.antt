@@ -1,12 +1,7 @@
 pub mod Changes
 pub mod Cut
-pub mod Improves
-pub mod Laws
-pub mod Parts
-pub mod Passing
 pub mod Places
 pub mod Plain
-pub mod Settled
+pub mod StandardForms
 pub mod Stepping
 pub mod Uses
-pub mod UsesLeft

@@ -3,7 +3,8 @@
 ghost use Rattle.std.specs.Prelude.{◌≡◌, [], ◌∷◌, ◌++◌, IfOk, OnOk, map};
 ghost use Rattle.mc_model.specs.Pattern.{Prep};
 ghost use Rattle.mc_pattern.specs.Commands.{plain_command};
-ghost use Rattle.mc_standard.specs.Parts.{IsStandardForm, with_signals};
+ghost use Rattle.mc_rules.specs.Parts.{with_signals};
+ghost use Rattle.mc_standard.specs.StandardForms.{IsStandardForm};
 ghost use Rattle.mc_standard.specs.Plain.{plain_edge, plain_measure, plain_fix};
 
 use crate::standard::{Fix, Measure, Standard};

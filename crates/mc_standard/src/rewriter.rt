@@ -7,7 +7,7 @@ ghost use Rattle.mc_pattern.specs.Commands.{plain_command};
 ghost use Rattle.mc_pattern.specs.Typed.{AllTyped};
 ghost use Rattle.mc_standard.specs.Stepping.{Advances, IsStandard};
 ghost use Rattle.mc_standard.specs.Uses.{plain_use};
-ghost use Rattle.mc_standard.specs.UsesLeft.{uses_left};
+ghost use Rattle.mc_rules.specs.UsesLeft.{uses_left};
 
 use crate::copy::copy_all;
 use crate::listing::copied;

@@ -4,7 +4,7 @@ ghost use Rattle.std.specs.Prelude.{◌≡◌, ◌+◌, ◌-◌, ◌<◌, ◌≤
 ghost use Rattle.mc_model.specs.Derivation.{part};
 ghost use Rattle.mc_pattern.specs.Commands.{plain_command};
 ghost use Rattle.mc_standard.specs.Places.{part_at, IsEarly, PassesAt, SettlesAt, IsTidyAt, FollowsAt, StaysSettled, Settles};
-ghost use Rattle.mc_standard.specs.Settled.{InOrder};
+ghost use Rattle.mc_rules.specs.Settled.{InOrder};
 ghost use Rattle.mc_standard.specs.Uses.{plain_rule, plain_use};
 
 use crate::apply::apply;

@@ -3,7 +3,7 @@
 ghost use Rattle.std.specs.Prelude.{◌≡◌, IfOk, map};
 ghost use Rattle.mc_model.specs.Pattern.{Prep};
 ghost use Rattle.mc_model.specs.StandardForm.{preparations_of};
-ghost use Rattle.mc_standard.specs.Parts.{entanglings_of, measurements_of, corrections_of};
+ghost use Rattle.mc_rules.specs.Parts.{entanglings_of, measurements_of, corrections_of};
 ghost use Rattle.mc_standard.specs.Plain.{plain_edge, plain_measure, plain_fix};
 
 use mc_angle::Angle;
@@ -47,7 +47,7 @@ pub struct Standard<const H: usize> {
 impl<const H: usize> Model for Standard<H> {
     ghost use Rattle.mc_model.specs.Pattern.{Pattern as Plain};
     ghost use Rattle.mc_pattern.specs.Patterns.{begun, with_outputs};
-    ghost use Rattle.mc_standard.specs.Parts.{IsStandardForm};
+    ghost use Rattle.mc_standard.specs.StandardForms.{IsStandardForm};
     ghost use Rattle.mc_standard.specs.Plain.{in_parts};
 
     ghost Value = { Plain };
@@ -60,7 +60,8 @@ impl<const H: usize> Model for Standard<H> {
 }
 
 impl<const H: usize> Standard<H> {
-    ghost use Rattle.mc_standard.specs.Parts.{IsStandardForm, IsInParts};
+    ghost use Rattle.mc_rules.specs.Parts.{IsInParts};
+    ghost use Rattle.mc_standard.specs.StandardForms.{IsStandardForm};
 
     /// The names of the qubits.
     pub fn names(&self) -> &Names

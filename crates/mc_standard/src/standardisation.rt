@@ -9,7 +9,7 @@ ghost use Rattle.mc_model.specs.Pattern.{Command as Plain};
 ghost use Rattle.mc_pattern.specs.Commands.{plain_command};
 ghost use Rattle.mc_pattern.specs.Patterns.{begun, with_outputs};
 ghost use Rattle.mc_standard.specs.Cut.{AreParts};
-ghost use Rattle.mc_standard.specs.Parts.{IsStandardForm};
+ghost use Rattle.mc_standard.specs.StandardForms.{IsStandardForm};
 
 use crate::listing::{append, copied};
 use crate::rewriter::Rewriter;

@@ -18,7 +18,7 @@ with_signals-requires g c =
       omega arith,
       (
         omega arith,
-        shifted_standard g.row.H p _ h.standard
+        shifted_standard c.settled_is_standard.ensures g.row.H p _ h.standard
             (shifted_parts p ms fs h.parts c.in_ok-measures.ensures.measures
             c.in_ok-fixes.ensures),
       ),

@@ -1,5 +1,5 @@
 use Rattle.mc_pattern.specs.Commands.{plain_command}
-use Rattle.mc_standard.proofs.Picks.{swaps, passed}
+use Rattle.mc_standard.proofs.PickedRules.{swaps, passed}
 use Rattle.mc_standard.proofs.pick.pass.Goals as goal
 
 pub returns-in_default : goal.returns-in_default

@@ -2,7 +2,7 @@ use Rattle.std.proofs.Common.{refl}
 use Rattle.mc_model.specs.Derivation.{z_first, z_second, z_measured}
 use Rattle.mc_model.specs.Pattern.{FixZ}
 use Rattle.mc_pattern.specs.Commands.{plain_command}
-use Rattle.mc_standard.proofs.Picks.{swaps, missed_z, missed_edge, missed_measure}
+use Rattle.mc_standard.proofs.PickedRules.{swaps, missed_z, missed_edge, missed_measure}
 use Rattle.mc_standard.proofs.pick.pass_z.Goals as goal
 use Rattle.mc_standard.proofs.pick.pass_z.Goals.{in_default-via-in-Ent-2+else-j-q, in_default-via-in-Meas+else-i-q-2, in_default-via-in_default}
 

@@ -2,7 +2,7 @@ use Rattle.std.proofs.Common.{refl, sym, arith}
 use mathlib.Core.Logic.{inl}
 use Rattle.mc_model.specs.Derivation.{edges_exchanged}
 use Rattle.mc_model.specs.Pattern.{Ent}
-use Rattle.mc_standard.proofs.Picks.{exchanges_two, edges_cancel}
+use Rattle.mc_standard.proofs.PickedRules.{exchanges_two, edges_cancel}
 use Rattle.mc_standard.proofs.pick.settle_edges.Goals as goal
 
 pub returns-then-is_before-2 : goal.returns-then-is_before-2

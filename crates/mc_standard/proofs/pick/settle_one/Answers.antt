@@ -2,7 +2,7 @@ use Rattle.std.proofs.Common.{refl, sym}
 use Rattle.std.proofs.lemmas.Bool.{lt-ltb}
 use mathlib.Core.Logic.{inl, inr}
 use Rattle.mc_model.specs.Derivation.{turned, x_dropped, z_dropped}
-use Rattle.mc_standard.proofs.Settles.{none_in}
+use Rattle.mc_rules.proofs.SettledOrImproved.{none_in}
 use Rattle.mc_standard.proofs.pick.settle_one.Goals as goal
 
 pub returns-in-Ent : goal.returns-in-Ent

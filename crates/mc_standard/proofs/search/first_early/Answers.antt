@@ -1,7 +1,7 @@
 use Rattle.std.proofs.Common.{arith, map}
 use Rattle.std.proofs.lemmas.List.{length-map}
 use Rattle.mc_pattern.specs.Commands.{plain_command}
-use Rattle.mc_standard.proofs.Walks.{order_more}
+use Rattle.mc_standard.proofs.OrderedFronts.{order_more}
 use Rattle.mc_standard.proofs.search.first_early.Goals as goal
 
 pub commands-preserved : goal.commands-preserved

@@ -1,6 +1,6 @@
 use Rattle.std.proofs.Common.{◌≤◌, ◌-◌, map, take, length}
 use Rattle.mc_pattern.specs.Commands.{plain_command}
-use Rattle.mc_standard.specs.Settled.{InOrder}
+use Rattle.mc_rules.specs.Settled.{InOrder}
 use Rattle.mc_standard.proofs.search.first_early.Given as goal
 
 abbrev pub invariant-commands : goal.invariant-commands

@@ -1,5 +1,5 @@
 use Rattle.std.proofs.Common.{◌∙◌, arith}
-use Rattle.mc_standard.proofs.Walks.{part_read, early_test}
+use Rattle.mc_standard.proofs.OrderedFronts.{part_read, early_test}
 use Rattle.mc_standard.proofs.search.is_early.Goals as goal
 
 pub returns-then-k-gt0 : goal.returns-then-k-gt0

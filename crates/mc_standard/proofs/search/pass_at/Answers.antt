@@ -1,7 +1,7 @@
 use Rattle.std.proofs.Common.{◌-◌, arith}
 use Rattle.std.proofs.lemmas.List.{length-map}
 use Rattle.mc_pattern.specs.Commands.{plain_command}
-use Rattle.mc_standard.proofs.Placed.{passed_at, read_at}
+use Rattle.mc_standard.proofs.ImprovedAtPlace.{passed_at, read_at}
 use Rattle.mc_standard.proofs.search.pass_at.Goals as goal
 
 pub returns-clause-passes : goal.returns-clause-passes

@@ -1,7 +1,7 @@
 use Rattle.std.proofs.Common.{arith}
 use Rattle.std.proofs.lemmas.List.{length-map}
 use Rattle.mc_standard.specs.Uses.{plain_rule}
-use Rattle.mc_standard.proofs.Walks.{stays_further, settles_two}
+use Rattle.mc_standard.proofs.OrderedFronts.{stays_further, settles_two}
 use Rattle.mc_standard.proofs.search.settle_at.Goals as goal
 
 pub returns-then-k-eq0-clause-settles : goal.returns-then-k-eq0-clause-settles

@@ -1,5 +1,5 @@
 use Rattle.std.proofs.Common.{◌≡◌, vec_len, length, ap, arith}
-use Rattle.mc_standard.proofs.Walks.{stays_on, settles_further}
+use Rattle.mc_standard.proofs.OrderedFronts.{stays_on, settles_further}
 use Rattle.mc_standard.specs.Uses.{plain_use}
 use Rattle.mc_standard.proofs.search.settle_from.Goals as goal
 

@@ -1,7 +1,7 @@
 use Rattle.std.proofs.Common.{refl, arith}
 use Rattle.std.proofs.lemmas.List.{length-map}
 use Rattle.mc_pattern.specs.Commands.{plain_command}
-use Rattle.mc_standard.proofs.Placed.{settled_one_at, tidy_at, read_at}
+use Rattle.mc_standard.proofs.ImprovedAtPlace.{settled_one_at, tidy_at, read_at}
 use Rattle.mc_standard.proofs.search.settle_one_at.Goals as goal
 
 pub returns-in_default-clause-settles : goal.returns-in_default-clause-settles

@@ -1,6 +1,6 @@
 use Rattle.std.proofs.Common.{map, subst, sym}
 use Rattle.mc_pattern.specs.Commands.{plain_command}
-use Rattle.mc_standard.specs.Parts.{IsStandardForm}
+use Rattle.mc_standard.specs.StandardForms.{IsStandardForm}
 use Rattle.mc_standard.proofs.CutParts.{cut_pattern}
 use Rattle.mc_standard.proofs.standardisation.standard_of.Goals as goal
 

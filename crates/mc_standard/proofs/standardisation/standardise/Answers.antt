@@ -1,6 +1,7 @@
 use Rattle.std.proofs.Common.{◌≡◌, refl, arith}
 use Rattle.mc_model.specs.StandardForm.{standard_form}
-use Rattle.mc_standard.proofs.StandardPatterns.{standard_pattern, reached, none_there, pattern_alike}
+use Rattle.mc_rules.proofs.StandardAlike.{pattern_alike}
+use Rattle.mc_standard.proofs.StandardPatterns.{standard_pattern, reached, none_there}
 use Rattle.mc_standard.proofs.standardisation.standardise.Goals as goal
 
 pub standard_of-requires : goal.standard_of-requires

@@ -1,7 +1,7 @@
 use Rattle.std.proofs.Common.{◌≡◌}
 use Rattle.mc_model.specs.StandardForm.{standard_form}
 use Rattle.mc_model.specs.Derivation.{rank}
-use Rattle.mc_standard.specs.UsesLeft.{uses_left}
+use Rattle.mc_rules.specs.UsesLeft.{uses_left}
 use Rattle.mc_standard.proofs.standardisation.standardise.Given as goal
 
 abbrev pub invariant-uses : goal.invariant-uses

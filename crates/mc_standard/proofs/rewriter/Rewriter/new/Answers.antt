@@ -1,4 +1,4 @@
-use Rattle.mc_standard.proofs.Advance.{nothing_done}
+use Rattle.mc_standard.proofs.RewriterAdvances.{nothing_done}
 use Rattle.mc_standard.proofs.rewriter.Rewriter.new.Goals as goal
 
 pub invariant_of-result : goal.invariant_of-result

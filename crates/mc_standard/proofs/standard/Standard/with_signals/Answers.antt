@@ -1,5 +1,5 @@
 use Rattle.std.proofs.Common.{map, subst, sym}
-use Rattle.mc_standard.specs.Parts.{IsStandardForm}
+use Rattle.mc_standard.specs.StandardForms.{IsStandardForm}
 use Rattle.mc_standard.specs.Plain.{plain_measure, plain_fix}
 use Rattle.mc_standard.proofs.CodeParts.{code_with_signals}
 use Rattle.mc_standard.proofs.standard.Standard.with_signals.Goals as goal
