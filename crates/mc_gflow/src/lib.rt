@@ -1,0 +1,9 @@
+//! Generalised flows, found by layers from the outputs (Mhalla and Perdrix 2008).
+#![tactic(auto)]
+
+mod find;
+mod graph;
+mod insert;
+mod take;
+
+pub use find::{Found, Layers, find_flow};
