@@ -1,12 +1,13 @@
 -- Numbers in decimal are read as they are.
-use Rattle.std.proofs.Common.{◌≡◌, ℕ, ◌+◌, ◌-◌, ◌*◌, ◌/◌, ◌%◌, ◌^◌, ◌<◌, ◌≤◌, List, [], ◌∷◌, ◌++◌, Bool, true, false, not, ◌&&◌, ◌==◌, nat_le, ℤ, pos, length, refl, sym, ap, ◌∙◌, arith, lit<, IsTrue}
+use Rattle.std.proofs.Common.{◌≡◌, ℕ, ◌+◌, ◌-◌, ◌*◌, ◌/◌, ◌%◌, ◌^◌, ◌<◌, ◌≤◌, List, [], ◌∷◌, ◌++◌, Bool, true, false, not, ◌&&◌, ◌==◌, nat_le, ℤ, pos, length, refl, sym, ap, ◌∙◌, arith, lit<, IsTrue, mod-eq_of_lt}
 use Rattle.std.specs.Fmt.{decimal}
 use Rattle.std.specs.List.{list_all}
-use Rattle.std.proofs.lemmas.Bool.{ne_eqb, eqb-true}
+use Rattle.std.proofs.lemmas.Bool.{ne_eqb}
 use Rattle.std.proofs.lemmas.Bool.Decides.{nat_tests}
 use Rattle.std.proofs.lemmas.Fmt.{decimal_by_steps, decimal_nonempty, length-decimal-le}
 use Rattle.std.proofs.lemmas.List.Folds.{list_all-append}
 use Rattle.mc_model.specs.Steps.{is_permitted}
+use Rattle.mc_model.proofs.StepLemmas.{permitted_at_most}
 use Rattle.mc_angle.specs.Number.{is_digit, is_number, number_of}
 use Rattle.mc_angle.specs.Angle.{is_angle, signed_number_of, angle_of}
 use Rattle.mc_angle.proofs.Digits.{number_of-push}
@@ -67,9 +68,9 @@ unsigned (b ∷ bs) some digits =
 pub angle-decimal : (half a : ℕ) → IsTrue (is_permitted half) → a < 2 * half
     → (is_angle (decimal a) ≡ true) × (angle_of half (decimal a) ≡ a)
 angle-decimal half a permitted lt =
-    let four : half ≡ 4 = eqb-true half 4 permitted in
+    let few : half ≤ 8 = permitted_at_most half permitted in
     let number = number-decimal a (omega arith) in
     let h = decimal_numeral a (omega arith) in
     let plain = unsigned (decimal a) (decimal_nonempty a (omega arith)) h.digits in
-    let small : a % (2 * half) ≡ a = rw four (omega arith) in
+    let small : a % (2 * half) ≡ a = mod-eq_of_lt lt in
     (plain.0 ∙ number.0, rw (plain.1, number.1) small)

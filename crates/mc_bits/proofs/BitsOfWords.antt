@@ -11,7 +11,7 @@ use Rattle.std.proofs.lemmas.Nat.Bits.{bit_at-zero}
 use Rattle.std.proofs.Math.Nat.{mod-eq_of_lt}
 use Rattle.std.proofs.Math.Pow.{pow-lt}
 use mathlib.Core.Bool.{beq}
-use Rattle.mc_model.specs.Bits.{◌⊻◌, Bits, odd, parity}
+use Rattle.mc_model.specs.Bits.{◌⊻◌, Bits, odd}
 use Rattle.mc_bits.specs.Words.{word_bit}
 
 bit_or_none : (a : ℕ) → a < 2 → (a ≡ 0) ⊎ (a ≡ 1)
@@ -101,7 +101,7 @@ unequal a b = grind arith
 -- one more bit of a sum
 pub parity_more : (f : Bits) (k : ℕ) (a b : Bool) → a ≡ odd k f → b ≡ f k →
     not (beq a b) ≡ odd (k + 1) f
-unfolding parity
+unfolding odd
 parity_more f k a b e g =
     let more : k + 1 ≡ suc k = omega arith in
     unequal a b ∙ ap₂ (λ (b a : Bool). b ⊻ a) g e ∙ ap (λ (n : ℕ). odd n f) (sym more)

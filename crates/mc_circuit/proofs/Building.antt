@@ -15,6 +15,7 @@ pub begun_with : (half : ℕ) (names names' : List Name) (inputs : ℕ) (gates :
     → gates ≡ [] → AreNames names' → length names ≤ length names'
     → IsBegun half (record { names = names'; inputs = inputs; outputs = []; gates = gates })
 begun_with half names names' inputs gates h none valid longer = record {
+  permitted = h.permitted;
   names = valid;
   inputs = let i = h.inputs in omega arith;
   gates = subst (λ (gs : List Gate). GatesFit (length names') gs) (sym none) tt;
@@ -57,6 +58,7 @@ pub begun_more : (half : ℕ) (names : List Name) (inputs : ℕ) (gates : List G
     → broken_rule (length names) g ≡ None → AnglesFit half (g ∷ []) → length gates < 32768
     → IsBegun half (record { names = names; inputs = inputs; outputs = []; gates = gates ++ g ∷ [] })
 begun_more half names inputs gates g h none angle room = record {
+  permitted = h.permitted;
   names = h.names;
   inputs = h.inputs;
   gates = GatesFit-append (length names) gates (g ∷ []) h.gates (fits_unbroken (length names) g none);

@@ -1,5 +1,5 @@
 -- The canonical text of a circuit is read without a fault, as that circuit.
-use Rattle.std.proofs.Common.{◌≡◌, ℕ, suc, ◌<◌, List, [], ◌∷◌, ◌++◌, All, Bool, true, false, ◌&&◌, Option, Some, None, length, map, take, drop, codes, refl, sym, ap, ◌∙◌, length-append, arith, IsTrue}
+use Rattle.std.proofs.Common.{◌≡◌, ℕ, suc, ◌<◌, List, [], ◌∷◌, ◌++◌, All, Bool, true, false, ◌&&◌, Option, Some, None, length, map, take, drop, codes, refl, sym, ap, ◌∙◌, length-append, arith, IsTrue, ◌≤◌}
 use Rattle.std.specs.Fmt.{decimal}
 use Rattle.std.specs.List.{flat_map, filter_map, list_all, IsDistinct, AllByRecursion}
 use Rattle.std.proofs.lemmas.Grind.{flat_map-append}
@@ -7,11 +7,11 @@ use Rattle.std.proofs.lemmas.List.{append-nil, take-append-drop, length-take-le}
 use Rattle.std.proofs.lemmas.List.Elements.{filter_map-append}
 use Rattle.std.proofs.lemmas.List.Folds.{list_all-append}
 use Rattle.std.proofs.lemmas.List.Sums.{list_all-from_AllPass}
-use Rattle.std.proofs.lemmas.Bool.{eqb-true}
 use Rattle.mc_model.specs.Names.{Name, AreNames, name_eq, is_name}
 use Rattle.mc_model.specs.Pattern.{Circuit, Gate, CZ}
 use Rattle.mc_model.specs.Pattern as plain
 use Rattle.mc_model.specs.Steps.{is_permitted}
+use Rattle.mc_model.proofs.StepLemmas.{permitted_at_most}
 use Rattle.mc_model.specs.Valid.{GatesFit}
 use Rattle.mc_angle.proofs.Numerals.{angle-decimal, number-decimal}
 use Rattle.mc_lex.specs.Lines.{end_of}
@@ -172,7 +172,7 @@ gates_written : (half : ℕ) (ns : List Name) (gs : List Gate) → AreNames ns
 gates_written half ns [] valid permitted fit angles = refl
 gates_written half ns (plain.J v a ∷ gs) valid permitted fit angles =
     let name = name_written (name_at ns v) (is_name-name_at ns v valid fit.0) in
-    let four : half ≡ 4 = eqb-true half 4 permitted in
+    let few : half ≤ 8 = permitted_at_most half permitted in
     let turn = angles.0 in
     let number = number_written (decimal a) (number-decimal a (omega arith)).0 in
     rw (name, number, gates_written half ns gs valid permitted fit.1 angles.1) refl

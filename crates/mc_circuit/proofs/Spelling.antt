@@ -47,6 +47,7 @@ pub reads_circuit : {half : ℕ} (k : Reader half) (lines : Lines) → IsKept k 
     → AreNames k.names → k.inputs ≤ length k.names → last_head lines ≡ Some End
     → IsCircuit half (value_of k)
 reads_circuit k lines h names few ends = record {
+  permitted = k.permitted;
   valid = record {
     names = names;
     inputs = few;

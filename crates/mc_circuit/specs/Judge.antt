@@ -1,6 +1,7 @@
 -- The rules and limits of a circuit's section.
-use Rattle.std.specs.Prelude.{ℕ, List, [], ◌∷◌, Bool, true, false, not, ◌&&◌, nat_le, length, Option, None, Some}
+use Rattle.std.specs.Prelude.{ℕ, suc, List, [], ◌∷◌, Bool, true, false, not, ◌&&◌, nat_le, length, Option, None, Some}
 use Rattle.std.specs.List.{list_all}
+use Rattle.mc_model.specs.Limits.{most_gates}
 use Rattle.mc_model.specs.Names.{name_eq, is_held}
 use Rattle.mc_text.specs.declared.head.Head.{Head}
 use Rattle.mc_text.specs.declared.fault.Fault.TheVariants.{NotFixed, LineEnds, Surplus, SameOperand, OutputsLack}
@@ -28,7 +29,7 @@ abbrev pub judge_by : List (List ℕ) → List (List ℕ) → Option (List ℕ) 
     → List ℕ → Option Judgement
 judge_by names listed first gates last record_word word =
     or_next (broken ((not (may_follow last (head_of word)), NotFixed) ∷ []))
-    (passed (is_gate (head_of word) && nat_le 32768 gates) 3 32769)
+    (passed (is_gate (head_of word) && nat_le most_gates gates) 3 (suc most_gates))
 judge_by names listed first gates last defined word = new_name names word
 judge_by names listed first gates last operand word = known_name names word
 judge_by names listed first gates last angle word = angle_word word

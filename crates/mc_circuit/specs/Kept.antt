@@ -3,6 +3,7 @@ use Rattle.std.specs.Prelude.{◌≡◌, ℕ, ◌+◌, ◌<◌, ◌≤◌, List,
 use Rattle.std.specs.List.{list_all, IsDistinct}
 use Rattle.std.specs.Option.{option_map}
 use Rattle.mc_angle.specs.Angle.{angle_of}
+use Rattle.mc_model.specs.Limits.{most_gates}
 use Rattle.mc_model.specs.Names.{name_eq, is_held, place_of}
 use Rattle.mc_model.specs.Pattern as plain
 use Rattle.mc_model.specs.Valid.{GatesFit}
@@ -52,8 +53,8 @@ pub record IsKept {half : ℕ} (k : Reader half) (before : Lines) (here : Words)
       ≡ map (gate_by half (k.names ++ more)) (spelled_gates before)
   pub gate_fits : AreGates half (length k.names) (map (plain_gate {h = half}) (option_to_list k.gate))
   pub fits : AreGates half (length k.names) (map (plain_gate {h = half}) k.gates.items)
-  pub few : length k.gates.items ≤ 32768
-  pub room : is_gate (head_in here) ≡ true → length k.gates.items < 32768
+  pub few : length k.gates.items ≤ most_gates
+  pub room : is_gate (head_in here) ≡ true → length k.gates.items < most_gates
   pub order : opens (last_head before) here ≡ true
   pub complete : is_closed (last_head before) ≡ true
       → list_all (is_held (names_at is_output before here)) k.names ≡ true

@@ -1,6 +1,8 @@
 //! Building circuits.
 
 ghost use Rattle.std.specs.Prelude.{◌≡◌, ◌↔◌, ℕ, ◌<◌, ◌≤◌, [], ◌∷◌, ◌++◌, length, map, Err, Some, None, OnOk, IfOk, OnErr, IfErr, IsTrue, true, nat_lt};
+ghost use Rattle.mc_model.specs.Steps.{is_permitted};
+ghost use Rattle.mc_model.specs.Limits.{most_qubits, most_gates};
 ghost use Rattle.mc_model.specs.Names.{place_of};
 ghost use Rattle.mc_model.specs.Numbers.{ListsOnce};
 ghost use Rattle.mc_circuit.specs.Gates.{plain_gate};
@@ -77,7 +79,7 @@ fn rule_of<const H: usize>(wires: u16, gate: &Gate<H>) -> Option<u8>
 
 /// Whether a list has each of so many wires once, and no other number.
 fn lists_each(wires: u16, out: &[u16]) -> bool
-    requires { wires ≤ 256 }
+    requires { wires ≤ most_qubits }
     ensures { IsTrue result ↔ ListsOnce wires (λ v. true) out.now }
 {
     let due = [true; 256];
@@ -87,6 +89,7 @@ fn lists_each(wires: u16, out: &[u16]) -> bool
 impl<const H: usize> CircuitBuilder<H> {
     /// A circuit of the inputs alone.
     pub fn new(alloc: Global, inputs: Names) -> CircuitBuilder<H>
+        requires { IsTrue (is_permitted H) }
         ensures { result ≡ record { names = inputs; inputs = length inputs; outputs = []; gates = [] } }
     {
         let count = inputs.len();
@@ -104,8 +107,8 @@ impl<const H: usize> CircuitBuilder<H> {
         ensures added { OnOk result (self.new ≡ record self.old { names = self.old.names ++ name ∷ [] }) }
         ensures twice { (q : ℕ) → (result ≡ Err (CircuitEnd.Twice q)) ↔ (place_of self.old.names name ≡ Some q) }
         ensures full { (result ≡ Err CircuitEnd.Full) ↔
-            ((place_of self.old.names name ≡ None) × (length self.old.names ≡ 256)) }
-        ensures room { OnOk result ((place_of self.old.names name ≡ None) × (length self.old.names < 256)) }
+            ((place_of self.old.names name ≡ None) × (length self.old.names ≡ most_qubits)) }
+        ensures room { OnOk result ((place_of self.old.names name ≡ None) × (length self.old.names < most_qubits)) }
         ensures no_other { (n : ℕ) → result ≡ Err (CircuitEnd.Rule n) → ⊥ }
         ensures no_limit { result ≡ Err CircuitEnd.Limit → ⊥ }
         ensures err { OnErr result (self.new ≡ self.old) }
@@ -125,12 +128,12 @@ impl<const H: usize> CircuitBuilder<H> {
     pub fn push(&mut self, gate: Gate<H>) -> Result<(), CircuitEnd>
         ensures ok { OnOk result (self.new ≡ record self.old { gates = self.old.gates ++ plain_gate gate.entry ∷ [] }) }
         ensures unbroken { OnOk result (broken_rule (length self.old.names) (plain_gate gate.entry) ≡ None) }
-        ensures room { OnOk result (length self.old.gates < 32_768) }
+        ensures room { OnOk result (length self.old.gates < most_gates) }
         ensures rule { (n : ℕ) → (result ≡ Err (CircuitEnd.Rule n)) ↔
             (broken_rule (length self.old.names) (plain_gate gate.entry) ≡ Some n) }
         ensures limit { (result ≡ Err CircuitEnd.Limit) ↔
             ((broken_rule (length self.old.names) (plain_gate gate.entry) ≡ None)
-            × (length self.old.gates ≡ 32_768)) }
+            × (length self.old.gates ≡ most_gates)) }
         ensures no_twice { (q : ℕ) → result ≡ Err (CircuitEnd.Twice q) → ⊥ }
         ensures no_full { result ≡ Err CircuitEnd.Full → ⊥ }
         ensures err { OnErr result (self.new ≡ self.old) }

@@ -1,6 +1,7 @@
 -- The laws of the passes one after the other.
 use Rattle.std.proofs.Common.{◌≡◌, ℕ, ◌<◌, ◌≤◌, Bool, List, sym, ◌∙◌, ap, arith}
 use mathlib.Core.Path.{subst}
+use Rattle.mc_model.specs.Laws.{ChosenFlowsAreFlows}
 use Rattle.mc_model.specs.Phase.{PhaseOps, PhaseLaws, turn}
 use Rattle.mc_model.specs.Bits.{Bits, all_zero}
 use Rattle.mc_model.specs.Ring.{Element, ring}
@@ -8,17 +9,19 @@ use Rattle.mc_model.specs.Pattern.{Circuit, Pattern}
 use Rattle.mc_model.specs.Amplitude.{zero_branch, circuit_table}
 use Rattle.mc_model.specs.Alike.{AlikeBranches}
 use Rattle.mc_model.specs.Valid.{IsValidCircuit}
-use Rattle.mc_model.specs.Translation.{translation}
+use Rattle.mc_model.specs.Translation.{translation, qubit_count}
 use Rattle.mc_model.specs.StandardForm.{standard_form}
 use Rattle.mc_model.specs.Graph.{OpenGraph}
 use Rattle.mc_model.specs.Choice.{IsChosenFlow}
 use Rattle.mc_model.specs.Made.{flow_pattern}
 use Rattle.mc_model.proofs.AlikeLemmas.{branches_back, branches_on}
 use Rattle.mc_model.proofs.RingLemmas.{ring_laws}
-use Rattle.mc_translate.specs.Qubits.{qubit_count}
-use Rattle.mc_translate.specs.Laws.{TranslationKeepsTable, TranslationScale, TranslationsAreValid, TranslationsHaveNoConstants}
+use Rattle.mc_translate.specs.Laws.{TranslationKeepsTable, TranslationScale, TranslationsAreValid}
+use Rattle.mc_translate.specs.Laws.{TranslationsHaveNoConstants}
 use Rattle.mc_graph.specs.Laws.{GraphsKeepZeroBranch, GraphsWithoutConstants}
-use Rattle.mc_make.specs.Laws.{ChosenFlowsAreFlows, ChosenFlowsAreLeastDeep, FlowPatternsAreMade, FlowPatternsHaveNoConstants, ChosenPatternsHaveNoSecondSignals, DependenceWithinLayers}
+use Rattle.mc_make.specs.Laws.{ChosenFlowsAreLeastDeep, FlowPatternsAreMade}
+use Rattle.mc_make.specs.Laws.{FlowPatternsHaveNoConstants, ChosenPatternsHaveNoSecondSignals}
+use Rattle.mc_make.specs.Laws.{DependenceWithinLayers}
 use Rattle.mc_rules.specs.Laws.{StandardIsStandard, StandardIsAlike, StandardKeepsZeroBranch}
 use Rattle.mc_shift.specs.Laws.{NoSecondSignalsNoShift}
 use Rattle.mc_compile.specs.Laws.{HasTable, IsCompiled, circuit_graph, CompiledCircuits}

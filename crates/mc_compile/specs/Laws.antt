@@ -1,13 +1,15 @@
 -- What is compiled from a circuit: the shifted form of the standard form of the pattern that is
 -- made from the chosen flow of the graph of the circuit's translation.
 use Rattle.std.specs.Prelude.{◌≡◌, ℕ, ◌+◌, ◌*◌, ◌<◌, ◌≤◌, Bool, List}
+use Rattle.mc_model.specs.Limits.{most_qubits}
 use Rattle.mc_model.specs.Phase.{turn}
 use Rattle.mc_model.specs.Bits.{Bits}
 use Rattle.mc_model.specs.Ring.{ring}
 use Rattle.mc_model.specs.Pattern.{Circuit, Pattern}
-use Rattle.mc_model.specs.Amplitude.{branch_map, zero_branch, circuit_table, j_count, pattern_scale, circuit_scale}
+use Rattle.mc_model.specs.Amplitude.{branch_map, zero_branch, circuit_table, j_count, pattern_scale}
+use Rattle.mc_model.specs.Amplitude.{circuit_scale}
 use Rattle.mc_model.specs.Valid.{IsValidPattern, IsValidCircuit}
-use Rattle.mc_model.specs.Translation.{translation}
+use Rattle.mc_model.specs.Translation.{translation, qubit_count}
 use Rattle.mc_model.specs.StandardForm.{standard_form}
 use Rattle.mc_model.specs.Shift.{IsShiftedForm, HasNoSecondSignals}
 use Rattle.mc_model.specs.Graph.{OpenGraph, graph_of}
@@ -15,7 +17,6 @@ use Rattle.mc_model.specs.Flow.{IsFlow, depth_of}
 use Rattle.mc_model.specs.Choice.{IsChosenFlow}
 use Rattle.mc_model.specs.Made.{flow_pattern}
 use Rattle.mc_model.specs.Depth.{IsDependenceDepth}
-use Rattle.mc_translate.specs.Qubits.{qubit_count}
 
 -- one power of `w` takes every entry of the circuit's table to that of the branch map
 pub record HasTable (half : ℕ) (q : Pattern) (o : Bits) (c : Circuit) : Type 0 where
@@ -45,7 +46,7 @@ pub record IsCompiled (half : ℕ) (c : Circuit) (q : Pattern) : Type 0 where
 -- a circuit within 256 qubits is compiled
 abbrev pub CompiledCircuits : Type 0
 CompiledCircuits = (half : ℕ) → 0 < half → (c : Circuit) → IsValidCircuit c →
-    qubit_count c ≤ 256 → (sets : ℕ → Bits) (layer : ℕ → ℕ) →
+    qubit_count c ≤ most_qubits → (sets : ℕ → Bits) (layer : ℕ → ℕ) →
     IsChosenFlow (circuit_graph half c) sets layer → (q : Pattern) →
     IsShiftedForm (standard_form (flow_pattern (circuit_graph half c) sets layer)) q →
     IsCompiled half c q

@@ -2,12 +2,12 @@
 use Rattle.std.proofs.Common.{◌≡◌, ◌≢◌, ℕ, zero, suc, ◌+◌, ◌-◌, ◌*◌, ◌/◌, ◌<◌, ◌≤◌, ◌⊎◌, ℤ, ◌+ℤ◌, List, [], ◌∷◌, length, refl, arith, sym, ap, ap₂, ◌∙◌, inl, inr, IsTrue}
 use Rattle.std.proofs.lemmas.Int.{ints}
 use Rattle.std.proofs.lemmas.Bool.Decides.{nat_tests}
+use Rattle.mc_model.specs.Roots.{root_times, root_powers, IsSameValue}
 use Rattle.mc_model.specs.Steps.{is_permitted}
 use Rattle.mc_model.specs.Ring.{ring, root_two, plus, minus, zeros, times, unit, rotations, length-unit, length-minus, length-times}
 use Rattle.mc_model.proofs.RingLemmas.{turn_coefficients, times_comm, times_assoc, times_plus, times_one, times_zeros, times_rotations, rotations_half, rotations_add, length-rotations}
 use Rattle.mc_model.proofs.RootTwo.{root_squared}
 use Rattle.mc_cyclo.specs.Cyclo.{IsLong}
-use Rattle.mc_cyclo.specs.Roots.{root_times, root_powers, IsSameValue}
 
 -- half a turn is four times some steps
 pub record IsQuartered (half : ℕ) : Type 0 where

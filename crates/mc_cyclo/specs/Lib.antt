@@ -1,5 +1,4 @@
 pub mod Height
 pub mod Cyclo
-pub mod Roots
 pub mod Text
 pub mod Phase

@@ -1,9 +1,9 @@
 //! Amplitudes.
 
 ghost use Rattle.std.specs.Prelude.{◌≡◌, ℕ, ℤ, List, ◌≤◌, ◌++◌, OnOk};
+ghost use Rattle.mc_model.specs.Roots.{IsSameValue};
 ghost use Rattle.mc_model.specs.Ring.{zeros};
 ghost use Rattle.mc_cyclo.specs.Cyclo.{IsLong};
-ghost use Rattle.mc_cyclo.specs.Roots.{IsSameValue};
 ghost use Rattle.mc_cyclo.specs.Text.{amplitude_text};
 
 use crate::cyclo::Cyclo;

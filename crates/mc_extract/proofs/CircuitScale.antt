@@ -1,6 +1,7 @@
 -- The scale of the extracted circuit: the vertices that are no inputs, and two for each fixed
 -- correction.
-use Rattle.std.proofs.Common.{◌≡◌, ℕ, zero, suc, ◌+◌, ◌-◌, ◌*◌, Bool, true, false, cond, not, ◌&&◌, map, length, List, [], ◌∷◌, ◌++◌, refl, sym, ◌∙◌, ap, arith}
+use Rattle.std.proofs.Common.{◌≡◌, ℕ, zero, suc, ◌+◌, ◌-◌, ◌*◌, Bool, true, false, cond, not, ◌&&◌}
+use Rattle.std.proofs.Common.{map, length, List, [], ◌∷◌, ◌++◌, refl, sym, ◌∙◌, ap, arith}
 use Rattle.std.specs.Prelude.{nat_lt, filter, flat_map, is_none}
 use Rattle.std.proofs.lemmas.List.{length-map, length-append}
 use Rattle.mc_model.specs.Bits.{Bits}
@@ -8,11 +9,14 @@ use Rattle.mc_model.specs.Numbers.{numbers_from, numbers_where}
 use Rattle.mc_model.specs.Signals.{one_signal}
 use Rattle.mc_model.specs.Pattern.{Command, FixX, FixZ, Gate, J, CZ, Circuit, wires}
 use Rattle.mc_model.specs.Amplitude.{j_count, circuit_scale}
-use Rattle.mc_model.specs.Graph.{Edge, OpenGraph, size, is_output, base_angle, fixed_at, IsOpenGraph, corrections_at, fixed_corrections}
+use Rattle.mc_model.specs.Graph.{Edge, OpenGraph, size, is_output, base_angle, fixed_at}
+use Rattle.mc_model.specs.Graph.{IsOpenGraph, corrections_at, fixed_corrections}
 use Rattle.mc_model.specs.Flow.{IsCausalFlow, single, depth_of}
-use Rattle.mc_model.specs.Made.{measuring_order, is_first, is_current, wire_of, cz_gate, gates_at, fixed_gates, extracted_gates, extracted_circuit}
+use Rattle.mc_model.specs.Made.{measuring_order, is_first, is_current, wire_of, cz_gate, gates_at}
+use Rattle.mc_model.specs.Made.{fixed_gates, extracted_gates, extracted_circuit}
 use Rattle.mc_model.specs.Graph.{joins}
-use Rattle.mc_model.proofs.NumberLists.{numbers_where-last, numbers_where-same, numbers_where-none, member_once}
+use Rattle.mc_model.proofs.NumberLists.{numbers_where-last, numbers_where-same, numbers_where-none}
+use Rattle.mc_model.proofs.NumberLists.{member_once}
 use Rattle.mc_model.proofs.AnyOrder.{same_length}
 use Rattle.mc_make.proofs.OrderLists.{order_falls}
 use Rattle.mc_extract.proofs.ValidCircuits.{extracted_valid}

@@ -1,13 +1,16 @@
 -- The sign of the edges between prepared vertices, and what one more vertex adds to it.
-use Rattle.std.proofs.Common.{◌≡◌, ℕ, ◌<◌, Bool, true, false, ◌&&◌, ◌||◌, not, List, [], ◌∷◌, refl, sym, ◌∙◌, ap, ap₂, arith}
+use Rattle.std.proofs.Common.{◌≡◌, ℕ, ◌<◌, Bool, true, false, ◌&&◌, ◌||◌, not, List, [], ◌∷◌, refl}
+use Rattle.std.proofs.Common.{sym, ◌∙◌, ap, ap₂, arith}
 use Rattle.std.specs.Prelude.{nat_eq}
 use Rattle.std.specs.List.{AllByRecursion}
-use Rattle.std.proofs.lemmas.Bool.{eq-eqb, ne_eqb, eqb-true, cases_eq, and_parts, false_from_ne_true, true≢false, false≢true}
+use Rattle.std.proofs.lemmas.Bool.{eq-eqb, ne_eqb, eqb-true, cases_eq, and_parts}
+use Rattle.std.proofs.lemmas.Bool.{false_from_ne_true, true≢false, false≢true}
 use mathlib.Core.Path.{fun_ext}
 use mathlib.Core.Logic.{inl, inr}
-use Rattle.mc_model.specs.Bits.{◌⊻◌, Bits, replaced, parity}
+use Rattle.mc_model.specs.Bits.{◌⊻◌, Bits, replaced, parity, odd}
 use Rattle.mc_model.specs.Numbers.{numbers_where, is_member}
-use Rattle.mc_model.specs.Graph.{Edge, OpenGraph, size, joins, odd_neighbourhood, EdgesRise, IsOpenGraph}
+use Rattle.mc_model.specs.Graph.{Edge, OpenGraph, size, joins, odd_neighbourhood, EdgesRise}
+use Rattle.mc_model.specs.Graph.{IsOpenGraph}
 use Rattle.mc_model.specs.Flow.{IsCausalFlow, single}
 use Rattle.mc_model.specs.Made.{is_current}
 use Rattle.mc_model.proofs.BitLemmas.{replaced_other, xor_false}
@@ -17,7 +20,8 @@ use Rattle.mc_make.proofs.SetSums.{odd-pick, parity-numbers_where}
 use Rattle.mc_make.proofs.GraphStates.{flipped, inside, set_sum, inside_flipped}
 use Rattle.mc_make.proofs.MeasuringOrder.{IsWhere, where_all, all-weaker}
 use Rattle.mc_extract.proofs.Chains.{corrects_causally}
-use Rattle.mc_extract.proofs.Passing.{IsNextToPass, is_born, born_here, born_step, not_current, current_neighbour}
+use Rattle.mc_extract.proofs.Passing.{IsNextToPass, is_born, born_here, born_step, not_current}
+use Rattle.mc_extract.proofs.Passing.{current_neighbour}
 
 -- ---- no edge joins a vertex to itself
 
@@ -73,14 +77,14 @@ inside_same n (e ∷ es) x y rise h =
 
 pub parity_replaced : (qs : List ℕ) (j : ℕ) (c : Bool) (x : Bits) →
     AllByRecursion (λ k. k ≡ j → ⊥) qs → parity qs (replaced x j c) ≡ parity qs x
-unfolding parity
+unfolding parity odd
 parity_replaced [] j c x all = refl
 parity_replaced (q ∷ qs) j c x all =
     ap₂ (λ (a b : Bool). a ⊻ b) (replaced_other x j c q all.0) (parity_replaced qs j c x all.1)
 
 pub parity_same : (qs : List ℕ) (x y : Bits) → AllByRecursion (λ k. x k ≡ y k) qs →
     parity qs x ≡ parity qs y
-unfolding parity
+unfolding parity odd
 parity_same [] x y all = refl
 parity_same (q ∷ qs) x y all =
     ap₂ (λ (a b : Bool). a ⊻ b) all.0 (parity_same qs x y all.1)

@@ -1,8 +1,10 @@
 -- What holds when all vertices were passed: the current ones are the outputs, one on each wire.
-use Rattle.std.proofs.Common.{◌≡◌, ℕ, ◌<◌, Bool, true, false, ◌&&◌, ◌||◌, not, map, List, [], ◌∷◌, refl, sym, ◌∙◌, ap, ap₂}
+use Rattle.std.proofs.Common.{◌≡◌, ℕ, ◌<◌, Bool, true, false, ◌&&◌, ◌||◌, not, map, List, [], ◌∷◌}
+use Rattle.std.proofs.Common.{refl, sym, ◌∙◌, ap, ap₂}
 use Rattle.std.specs.Prelude.{nat_eq, filter}
 use Rattle.std.specs.List.{AllByRecursion}
-use Rattle.std.proofs.lemmas.Bool.{cases_Bool, true≢false, false≢true, false_from_ne_true, or_cases, or_right, eq-eqb}
+use Rattle.std.proofs.lemmas.Bool.{cases_Bool, true≢false, false≢true, false_from_ne_true, or_cases}
+use Rattle.std.proofs.lemmas.Bool.{or_right, eq-eqb}
 use Rattle.std.proofs.lemmas.List.Elements.{recursion_from_All}
 use mathlib.Core.Logic.{inl, inr}
 use Rattle.mc_model.specs.Numbers.{is_member}
@@ -12,7 +14,8 @@ use Rattle.mc_model.specs.Flow.{IsCausalFlow, single, depth_of}
 use Rattle.mc_model.specs.Made.{measuring_order, is_first, is_current, wire_of, cz_gate}
 use Rattle.mc_make.proofs.MeasuringOrder.{all-weaker}
 use Rattle.mc_extract.proofs.Chains.{before_cases}
-use Rattle.mc_extract.proofs.Passing.{IsPassed, nothing_passed, passed_on, next_to_pass, is_born, born_first, born_behind}
+use Rattle.mc_extract.proofs.Passing.{IsPassed, nothing_passed, passed_on, next_to_pass, is_born}
+use Rattle.mc_extract.proofs.Passing.{born_first, born_behind}
 use Rattle.mc_extract.proofs.Wires.{IsSpread, spread_at_first, spread_on}
 
 -- the gates of the edges between first vertices

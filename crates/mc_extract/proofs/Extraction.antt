@@ -1,5 +1,6 @@
 -- The table of the extracted circuit is the zero branch of the graph.
-use Rattle.std.proofs.Common.{◌≡◌, ℕ, ◌<◌, Bool, true, false, cond, ◌&&◌, map, length, List, [], ◌∷◌, refl, sym, ◌∙◌, ap, ap₂, arith}
+use Rattle.std.proofs.Common.{◌≡◌, ℕ, ◌<◌, Bool, true, false, cond, ◌&&◌, map, length, List, []}
+use Rattle.std.proofs.Common.{◌∷◌, refl, sym, ◌∙◌, ap, ap₂, arith}
 use Rattle.std.specs.Prelude.{filter}
 use Rattle.std.specs.List.{AllByRecursion}
 use Rattle.std.proofs.lemmas.Bool.{cases_eq, true≢false, false≢true}
@@ -8,10 +9,13 @@ use mathlib.Core.Logic.{inl, inr}
 use Rattle.mc_model.specs.Phase.{PhaseOps, PhaseLaws, sign, doubled}
 use Rattle.mc_model.specs.Bits.{◌⊻◌, Bits, replaced, all_zero}
 use Rattle.mc_model.specs.Pattern.{Gate}
-use Rattle.mc_model.specs.Amplitude.{Amps, start, after, placed, act_gate, after_gates, circuit_table, zero_branch}
-use Rattle.mc_model.specs.Graph.{Edge, OpenGraph, size, IsOpenGraph, entanglings, bare_measurement, fixed_corrections, zero_pattern}
+use Rattle.mc_model.specs.Amplitude.{Amps, start, after, placed, act_gate, after_gates}
+use Rattle.mc_model.specs.Amplitude.{circuit_table, zero_branch}
+use Rattle.mc_model.specs.Graph.{Edge, OpenGraph, size, IsOpenGraph, entanglings, bare_measurement}
+use Rattle.mc_model.specs.Graph.{fixed_corrections, zero_pattern}
 use Rattle.mc_model.specs.Flow.{IsCausalFlow, single, depth_of}
-use Rattle.mc_model.specs.Made.{measuring_order, is_first, is_current, wire_of, cz_gate, extracted_gates, extracted_circuit}
+use Rattle.mc_model.specs.Made.{measuring_order, is_first, is_current, wire_of, cz_gate}
+use Rattle.mc_model.specs.Made.{extracted_gates, extracted_circuit}
 use Rattle.mc_model.proofs.PhaseLemmas.{sign-twice}
 use Rattle.mc_model.proofs.FixedGates.{unfixed_gates, unfixed_commands, extracted_with_fixed}
 use Rattle.mc_model.proofs.AmplitudeLemmas.{gates-append, start_same}
@@ -20,11 +24,15 @@ use Rattle.mc_model.proofs.OddSums.{and_false}
 use Rattle.mc_make.proofs.GraphStates.{inside, after-entanglings}
 use Rattle.mc_make.proofs.Corrected.{bare}
 use Rattle.mc_make.proofs.ZeroBranch.{unfixed_in_order}
-use Rattle.mc_extract.proofs.Passing.{all_at, IsPassed, nothing_passed, passed_on, next_to_pass, is_born}
-use Rattle.mc_extract.proofs.Wires.{IsSpread, spread_at_first, spread_on, current_first, input_first, wire_of_input}
+use Rattle.mc_extract.proofs.Passing.{all_at, IsPassed, nothing_passed, passed_on, next_to_pass}
+use Rattle.mc_extract.proofs.Passing.{is_born}
+use Rattle.mc_extract.proofs.Wires.{IsSpread, spread_at_first, spread_on, current_first}
+use Rattle.mc_extract.proofs.Wires.{input_first, wire_of_input}
 use Rattle.mc_extract.proofs.EdgeSigns.{shown, inside_same, neighbours_now}
-use Rattle.mc_extract.proofs.Ends.{first_gates, passed_all, all_born, current_at_end, IsOut, outputs_out, whole_order, at_end, outputs_apart}
-use Rattle.mc_extract.proofs.Steps.{measured_back, prepared_state, so_far, IsCarried, after_cz, carried_step, j_gate}
+use Rattle.mc_extract.proofs.Ends.{first_gates, passed_all, all_born, current_at_end, IsOut}
+use Rattle.mc_extract.proofs.Ends.{outputs_out, whole_order, at_end, outputs_apart}
+use Rattle.mc_extract.proofs.Steps.{measured_back, prepared_state, so_far, IsCarried, after_cz}
+use Rattle.mc_extract.proofs.Steps.{carried_step, j_gate}
 
 -- ---- settings of the outputs
 

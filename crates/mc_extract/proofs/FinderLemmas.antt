@@ -1,9 +1,13 @@
 -- Lists that the finder makes and reads.
-use Rattle.std.proofs.Common.{◌≡◌, ℕ, zero, suc, ◌+◌, ◌<◌, ◌≤◌, Bool, true, false, cond, ◌&&◌, not, map, take, drop, List, [], ◌∷◌, ◌++◌, length, refl, sym, ◌∙◌, ap, ap₂, arith}
-use Rattle.std.specs.Prelude.{All, filter, find, option_to_list, slice_index_or, unwrap_or, is_none, Option, Some, None}
+use Rattle.std.proofs.Common.{◌≡◌, ℕ, zero, suc, ◌+◌, ◌<◌, ◌≤◌, Bool, true, false, cond, ◌&&◌, not}
+use Rattle.std.proofs.Common.{map, take, drop, List, [], ◌∷◌, ◌++◌, length, refl, sym, ◌∙◌, ap, ap₂}
+use Rattle.std.proofs.Common.{arith}
+use Rattle.std.specs.Prelude.{All, filter, find, option_to_list, slice_index_or, unwrap_or, is_none}
+use Rattle.std.specs.Prelude.{Option, Some, None}
 use Rattle.std.specs.Option.{is_some}
 use Rattle.std.specs.List.{list_any}
-use Rattle.std.proofs.lemmas.Bool.{cases_eq, or_parts, or_from, true≢false, false≢true, true_from_ne_false}
+use Rattle.std.proofs.lemmas.Bool.{cases_eq, or_parts, or_from, true≢false, false≢true}
+use Rattle.std.proofs.lemmas.Bool.{true_from_ne_false}
 use Rattle.std.proofs.lemmas.List.Elements.{filter-append, All-from_recursion}
 use mathlib.Core.Path.{subst}
 use mathlib.Core.Logic.{inl, inr}
@@ -11,14 +15,19 @@ use Rattle.mc_model.specs.Bits.{Bits}
 use Rattle.mc_model.specs.Numbers.{numbers_from}
 use Rattle.mc_model.specs.Graph.{OpenGraph, size, is_output, joins}
 use Rattle.mc_model.specs.Flow.{IsStuckSet}
-use Rattle.mc_model.specs.Choice.{CorrectsCausally, IsLeastCausalLayer, IsChosenCausalFlow, IsChosenStuckSet}
+use Rattle.mc_model.specs.Choice.{CorrectsCausally, IsLeastCausalLayer, IsChosenCausalFlow}
+use Rattle.mc_model.specs.Choice.{IsChosenStuckSet}
 use Rattle.mc_model.proofs.Refutation.{stuck}
 use Rattle.mc_make.proofs.MeasuringOrder.{IsWhere, where_all, all-weaker}
 use Rattle.mc_extract.specs.declared.found.Found.{Found}
-use Rattle.mc_extract.specs.Rounds.{sole, is_some_of, neighbours, taken_vertex, corrector, rest_after, layer_after, next_after, IsSettled, IsAllTaken}
-use Rattle.mc_extract.specs.Finder.{unfound, left_in, layer_in, next_in, with_taker, found_after, all_found, IsAtEnd, SameLeft, IsFoundFlow, IsFoundStuck}
+use Rattle.mc_extract.specs.Rounds.{sole, is_some_of, neighbours, taken_vertex, corrector}
+use Rattle.mc_extract.specs.Rounds.{rest_after, layer_after, next_after, IsSettled, IsAllTaken}
+use Rattle.mc_extract.specs.Finder.{unfound, left_in, layer_in, next_in, with_taker, found_after}
+use Rattle.mc_extract.specs.Finder.{all_found, IsAtEnd, SameLeft, IsFoundFlow, IsFoundStuck}
 use Rattle.mc_extract.proofs.Places.{find_cases, find_least}
-use Rattle.mc_extract.proofs.Rounds.{find-same, corrector-same, left_within, chosen_stuck_set, chosen_causal_flow, same_or_other, chosen_is_flow, settled_on, rounds_settle}
+use Rattle.mc_extract.proofs.Rounds.{find-same, corrector-same, left_within, chosen_stuck_set}
+use Rattle.mc_extract.proofs.Rounds.{chosen_causal_flow, same_or_other, chosen_is_flow, settled_on}
+use Rattle.mc_extract.proofs.Rounds.{rounds_settle}
 
 -- ---- a list with two elements that pass
 

@@ -1,8 +1,12 @@
 -- The extracted circuit has a gate for each edge.
-use Rattle.std.proofs.Common.{◌≡◌, ℕ, zero, suc, ◌+◌, ◌-◌, ◌*◌, ◌<◌, ◌≤◌, Bool, true, false, cond, ◌&&◌, ◌||◌, map, List, [], ◌∷◌, ◌++◌, length, refl, sym, ◌∙◌, ap, ap₂, arith}
+use Rattle.std.proofs.Common.{◌≡◌, ℕ, zero, suc, ◌+◌, ◌-◌, ◌*◌, ◌<◌, ◌≤◌, Bool, true, false, cond}
+use Rattle.std.proofs.Common.{◌&&◌, ◌||◌, map, List, [], ◌∷◌, ◌++◌, length, refl, sym, ◌∙◌, ap, ap₂}
+use Rattle.std.proofs.Common.{arith}
 use Rattle.std.specs.Prelude.{◌⊎◌, nat_eq, nat_lt, flat_map}
 use Rattle.std.specs.List.{AllByRecursion}
-use Rattle.std.proofs.lemmas.Bool.{eq-eqb, ne_eqb, eqb-true, cases_eq, cases_Bool, cases_order, and_parts, and_left, and_right, true≢false, false_from_ne_true, lt-ltb, le-ltb, ltb-true}
+use Rattle.std.proofs.lemmas.Bool.{eq-eqb, ne_eqb, eqb-true, cases_eq, cases_Bool, cases_order}
+use Rattle.std.proofs.lemmas.Bool.{and_parts, and_left, and_right, true≢false, false_from_ne_true}
+use Rattle.std.proofs.lemmas.Bool.{lt-ltb, le-ltb, ltb-true}
 use Rattle.std.proofs.lemmas.List.{length-map, length-append}
 use Rattle.std.proofs.lemmas.List.Elements.{recursion_from_All}
 use mathlib.Core.Logic.{inl, inr}
@@ -10,15 +14,19 @@ use Rattle.mc_model.specs.Bits.{◌⊻◌, Bits, same_pair}
 use Rattle.mc_model.specs.Numbers.{numbers_from}
 use Rattle.mc_model.specs.Signals.{one_signal}
 use Rattle.mc_model.specs.Pattern.{Command, FixX, FixZ, Gate, J}
-use Rattle.mc_model.specs.Graph.{Edge, OpenGraph, size, joins, IsBehind, EdgesRise, IsOpenGraph, fixed_at, corrections_at, fixed_corrections}
+use Rattle.mc_model.specs.Graph.{Edge, OpenGraph, size, joins, IsBehind, EdgesRise, IsOpenGraph}
+use Rattle.mc_model.specs.Graph.{fixed_at, corrections_at, fixed_corrections}
 use Rattle.mc_model.specs.Flow.{IsCausalFlow, single, depth_of}
-use Rattle.mc_model.specs.Made.{measuring_order, is_first, is_current, wire_of, cz_gate, gates_at, fixed_gates, extracted_gates, extracted_circuit}
+use Rattle.mc_model.specs.Made.{measuring_order, is_first, is_current, wire_of, cz_gate, gates_at}
+use Rattle.mc_model.specs.Made.{fixed_gates, extracted_gates, extracted_circuit}
 use Rattle.mc_model.proofs.BitLemmas.{and_true, xor_false}
 use Rattle.mc_model.proofs.OddSums.{xor_and, and_false}
 use Rattle.mc_model.proofs.PairLemmas.{pair_ends}
 use Rattle.mc_extract.proofs.Places.{tally, tally_most, length-where}
 use Rattle.mc_extract.proofs.Chains.{corrects_causally}
-use Rattle.mc_extract.proofs.Passing.{IsPassed, nothing_passed, passed_on, next_to_pass, IsNextToPass, is_born, born_here, born_step, unborn_next, not_current}
+use Rattle.mc_extract.proofs.Passing.{IsPassed, nothing_passed, passed_on, next_to_pass}
+use Rattle.mc_extract.proofs.Passing.{IsNextToPass, is_born, born_here, born_step, unborn_next}
+use Rattle.mc_extract.proofs.Passing.{not_current}
 use Rattle.mc_extract.proofs.Wires.{current_first}
 use Rattle.mc_extract.proofs.EdgeSigns.{joined_now, neighbours_now, same_neighbours}
 use Rattle.mc_extract.proofs.Ends.{first_gates, passed_all, all_born, whole_order, at_end}

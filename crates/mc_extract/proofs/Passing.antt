@@ -1,8 +1,11 @@
 -- The vertices that were passed in the order of measuring, and those that are current then.
-use Rattle.std.proofs.Common.{◌≡◌, ℕ, ◌<◌, ◌≤◌, Bool, true, false, ◌&&◌, ◌||◌, not, List, [], ◌∷◌, refl, sym, ◌∙◌, ap, ap₂, arith}
+use Rattle.std.proofs.Common.{◌≡◌, ℕ, ◌<◌, ◌≤◌, Bool, true, false, ◌&&◌, ◌||◌, not, List, [], ◌∷◌}
+use Rattle.std.proofs.Common.{refl, sym, ◌∙◌, ap, ap₂, arith}
 use Rattle.std.specs.Prelude.{nat_eq, unwrap_or, is_none, Option, Some, None}
 use Rattle.std.specs.List.{AllByRecursion}
-use Rattle.std.proofs.lemmas.Bool.{eq-eqb, ne_eqb, eqb-true, and_from, or_cases, or_from, not_from_false, cases_eq, false≢true, true≢false, false_from_ne_true}
+use Rattle.std.proofs.lemmas.Bool.{eq-eqb, ne_eqb, eqb-true, and_from, or_cases, or_from}
+use Rattle.std.proofs.lemmas.Bool.{not_from_false, cases_eq, false≢true, true≢false}
+use Rattle.std.proofs.lemmas.Bool.{false_from_ne_true}
 use mathlib.Core.Path.{subst}
 use mathlib.Core.Logic.{inl, inr}
 use Rattle.mc_model.specs.Bits.{◌⊻◌, Bits}
@@ -14,7 +17,8 @@ use Rattle.mc_model.proofs.BitLemmas.{xor_false}
 use Rattle.mc_make.proofs.MeasuringOrder.{IsToMeasure, IsLater, IsOrder, measured_in_order}
 use Rattle.mc_model.proofs.NumberLists.{member_once}
 use Rattle.mc_make.proofs.OrderLists.{order_once}
-use Rattle.mc_extract.proofs.Chains.{corrects_causally, before_cases, one_before, before_next, next_of}
+use Rattle.mc_extract.proofs.Chains.{corrects_causally, before_cases, one_before, before_next}
+use Rattle.mc_extract.proofs.Chains.{next_of}
 
 pub all_at : (P : ℕ → Type 0) (qs : List ℕ) (k : ℕ) → AllByRecursion P qs →
     is_member qs k ≡ true → P k

@@ -1,7 +1,12 @@
 -- What the rounds leave: nothing, with a causal flow of least layers, or the greatest stuck set.
-use Rattle.std.proofs.Common.{◌≡◌, ℕ, zero, suc, ◌+◌, ◌<◌, ◌≤◌, Bool, true, false, cond, ◌&&◌, ◌||◌, List, [], ◌∷◌, refl, sym, ◌∙◌, ap, ap₂, arith}
-use Rattle.std.specs.Prelude.{◌⊎◌, nat_eq, nat_lt, filter, find, unwrap_or, is_none, Option, Some, None}
-use Rattle.std.proofs.lemmas.Bool.{eq-eqb, ne_eqb, eqb-true, cases_eq, cases_lt, cases_Bool, and_parts, and_from, or_right, or_parts, or_from, not-true, not_from_false, true≢false, false≢true, false_from_ne_true, true_from_ne_false, lt-ltb, le-ltb, ltb-true}
+use Rattle.std.proofs.Common.{◌≡◌, ℕ, zero, suc, ◌+◌, ◌<◌, ◌≤◌, Bool, true, false, cond, ◌&&◌, ◌||◌}
+use Rattle.std.proofs.Common.{List, [], ◌∷◌, refl, sym, ◌∙◌, ap, ap₂, arith}
+use Rattle.std.specs.Prelude.{◌⊎◌, nat_eq, nat_lt, filter, find, unwrap_or, is_none, Option, Some}
+use Rattle.std.specs.Prelude.{None}
+use Rattle.std.proofs.lemmas.Bool.{eq-eqb, ne_eqb, eqb-true, cases_eq, cases_lt, cases_Bool}
+use Rattle.std.proofs.lemmas.Bool.{and_parts, and_from, or_right, or_parts, or_from, not-true}
+use Rattle.std.proofs.lemmas.Bool.{not_from_false, true≢false, false≢true, false_from_ne_true}
+use Rattle.std.proofs.lemmas.Bool.{true_from_ne_false, lt-ltb, le-ltb, ltb-true}
 use mathlib.Core.Path.{subst}
 use mathlib.Core.Logic.{inl, inr}
 use Rattle.mc_model.specs.Bits.{Bits}
@@ -12,8 +17,11 @@ use Rattle.mc_model.specs.Flow.{IsCausalFlow, single, IsOnlyNeighbour, IsStuckSe
 use Rattle.mc_model.specs.Choice.{CorrectsCausally, IsChosenCausalFlow, IsChosenStuckSet}
 use Rattle.mc_model.proofs.Refutation.{odd_of_single, joins_comm, stuck}
 use Rattle.mc_model.proofs.NumberLists.{numbers_where-same}
-use Rattle.mc_extract.specs.Rounds.{sole, only_neighbour, is_some_of, taken_vertex, takes, corrector, rest_after, layer_after, next_after, IsSettled, IsAllTaken}
-use Rattle.mc_extract.proofs.Places.{find_cases, find_least, numbers_where-rise, member-where, tally, tally_less, tally_most}
+use Rattle.mc_extract.specs.Rounds.{sole, only_neighbour, is_some_of, taken_vertex, takes}
+use Rattle.mc_extract.specs.Rounds.{corrector, rest_after, layer_after, next_after, IsSettled}
+use Rattle.mc_extract.specs.Rounds.{IsAllTaken}
+use Rattle.mc_extract.proofs.Places.{find_cases, find_least, numbers_where-rise, member-where}
+use Rattle.mc_extract.proofs.Places.{tally, tally_less, tally_most}
 use Rattle.mc_extract.proofs.Chains.{corrects_causally}
 
 -- ---- a causal flow from what corrects each vertex

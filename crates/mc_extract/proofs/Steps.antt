@@ -1,5 +1,6 @@
 -- The amplitudes when some vertices were passed, and the gates that pass one more.
-use Rattle.std.proofs.Common.{◌≡◌, ℕ, ◌+◌, ◌<◌, Bool, true, false, cond, ◌&&◌, ◌||◌, map, List, [], ◌∷◌, refl, sym, ◌∙◌, ap, ap₂, arith}
+use Rattle.std.proofs.Common.{◌≡◌, ℕ, ◌+◌, ◌<◌, Bool, true, false, cond, ◌&&◌, ◌||◌, map, List, []}
+use Rattle.std.proofs.Common.{◌∷◌, refl, sym, ◌∙◌, ap, ap₂, arith}
 use Rattle.std.specs.Prelude.{nat_eq, nat_lt, unwrap_or}
 use Rattle.std.proofs.lemmas.Bool.{eq-eqb, cases_eq, or_right, and_parts, true≢false}
 use mathlib.Core.Path.{fun_ext}
@@ -18,9 +19,11 @@ use Rattle.mc_make.proofs.GraphStates.{inside}
 use Rattle.mc_make.proofs.MeasuringOrder.{IsWhere, where_all, all-weaker}
 use Rattle.mc_make.proofs.Corrected.{bare, weighed, bare_is, signed_sum}
 use Rattle.mc_extract.proofs.Chains.{corrects_causally}
-use Rattle.mc_extract.proofs.Passing.{IsNextToPass, current_here, current_next, current_step, next_is_other, next_fresh}
+use Rattle.mc_extract.proofs.Passing.{IsNextToPass, current_here, current_next, current_step}
+use Rattle.mc_extract.proofs.Passing.{next_is_other, next_fresh}
 use Rattle.mc_extract.proofs.Wires.{wire_next, IsSpread}
-use Rattle.mc_extract.proofs.EdgeSigns.{shown, joined_now, neighbours_now, parity_replaced, parity_same, edges_step, passed_apart}
+use Rattle.mc_extract.proofs.EdgeSigns.{shown, joined_now, neighbours_now, parity_replaced}
+use Rattle.mc_extract.proofs.EdgeSigns.{parity_same, edges_step, passed_apart}
 
 module _ {E : Type 0} (ops : PhaseOps E) where
   -- the vertices `done` measured at outcomes 0, the last of the list first

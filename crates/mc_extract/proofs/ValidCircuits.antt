@@ -1,6 +1,8 @@
 -- The extracted circuit is valid.
-use Rattle.std.proofs.Common.{◌≡◌, ℕ, zero, suc, ◌+◌, ◌<◌, ◌≤◌, Bool, true, false, cond, ◌&&◌, map, List, [], ◌∷◌, ◌++◌, length, refl, sym, ◌∙◌, ap, ap₂, arith}
-use Rattle.std.specs.Prelude.{◌⊎◌, nat_eq, nat_lt, flat_map, unwrap_or, is_none, slice_get, count_by, IsTrue, Some}
+use Rattle.std.proofs.Common.{◌≡◌, ℕ, zero, suc, ◌+◌, ◌<◌, ◌≤◌, Bool, true, false, cond, ◌&&◌, map}
+use Rattle.std.proofs.Common.{List, [], ◌∷◌, ◌++◌, length, refl, sym, ◌∙◌, ap, ap₂, arith}
+use Rattle.std.specs.Prelude.{◌⊎◌, nat_eq, nat_lt, flat_map, unwrap_or, is_none, slice_get}
+use Rattle.std.specs.Prelude.{count_by, IsTrue, Some}
 use Rattle.std.specs.List.{AllByRecursion, IsDistinct}
 use Rattle.std.proofs.lemmas.Bool.{eq-eqb, ne_eqb, cases_eq, cases_Bool, and_parts, true≢false}
 use Rattle.std.proofs.lemmas.List.{length-map}
@@ -13,17 +15,22 @@ use Rattle.mc_model.specs.Numbers.{numbers_from}
 use Rattle.mc_model.specs.Signals.{AllAbove, IsRising}
 use Rattle.mc_model.specs.Pattern.{Gate, J, CZ}
 use Rattle.mc_model.specs.Valid.{GatesFit, IsValidCircuit}
-use Rattle.mc_model.specs.Graph.{Edge, OpenGraph, size, base_angle, joins, EdgesRise, IsOpenGraph, fixed_at}
+use Rattle.mc_model.specs.Graph.{Edge, OpenGraph, size, base_angle, joins, EdgesRise, IsOpenGraph}
+use Rattle.mc_model.specs.Graph.{fixed_at}
 use Rattle.mc_model.specs.Flow.{IsCausalFlow, single, depth_of}
-use Rattle.mc_model.specs.Made.{measuring_order, is_first, is_current, first_vertices, wire_of, cz_gate, gates_at, fixed_gates, extracted_gates, extracted_circuit}
+use Rattle.mc_model.specs.Made.{measuring_order, is_first, is_current, first_vertices, wire_of}
+use Rattle.mc_model.specs.Made.{cz_gate, gates_at, fixed_gates, extracted_gates, extracted_circuit}
 use Rattle.mc_make.proofs.MeasuringOrder.{IsWhere, where_all, all-weaker}
 use Rattle.mc_model.proofs.NumberLists.{member_once}
 use Rattle.mc_extract.proofs.Places.{numbers_where-rise, tally_most, length-where}
 use Rattle.mc_extract.proofs.Chains.{corrects_causally}
-use Rattle.mc_extract.proofs.Passing.{IsPassed, nothing_passed, passed_on, next_to_pass, current_next}
-use Rattle.mc_extract.proofs.Wires.{wire_count, has_wire, IsSpread, spread_at_first, spread_on, current_first, wire_of_input}
+use Rattle.mc_extract.proofs.Passing.{IsPassed, nothing_passed, passed_on, next_to_pass}
+use Rattle.mc_extract.proofs.Passing.{current_next}
+use Rattle.mc_extract.proofs.Wires.{wire_count, has_wire, IsSpread, spread_at_first, spread_on}
+use Rattle.mc_extract.proofs.Wires.{current_first, wire_of_input}
 use Rattle.mc_extract.proofs.EdgeSigns.{no_loop, joined_now, neighbours_now}
-use Rattle.mc_extract.proofs.Ends.{first_gates, current_at_end, IsOut, outputs_out, whole_order, at_end, outputs_apart}
+use Rattle.mc_extract.proofs.Ends.{first_gates, current_at_end, IsOut, outputs_out, whole_order}
+use Rattle.mc_extract.proofs.Ends.{at_end, outputs_apart}
 
 -- ---- names
 

@@ -1,5 +1,6 @@
 -- The wires of vertices: current vertices have wires of their own, and each wire a current vertex.
-use Rattle.std.proofs.Common.{◌≡◌, ℕ, ◌+◌, ◌<◌, Bool, true, false, ◌||◌, List, [], ◌∷◌, length, refl, sym, ◌∙◌, ap, arith}
+use Rattle.std.proofs.Common.{◌≡◌, ℕ, ◌+◌, ◌<◌, Bool, true, false, ◌||◌, List, [], ◌∷◌, length}
+use Rattle.std.proofs.Common.{refl, sym, ◌∙◌, ap, arith}
 use Rattle.std.specs.Prelude.{nat_lt, is_none, slice_get, Option, Some}
 use Rattle.std.proofs.lemmas.Bool.{and_parts, cases_eq, true≢false, ltb-true, lt-ltb}
 use mathlib.Core.Logic.{inl, inr}
@@ -7,9 +8,12 @@ use Rattle.mc_model.specs.Graph.{OpenGraph, size, is_input, is_output, IsOpenGra
 use Rattle.mc_model.specs.Flow.{IsCausalFlow}
 use Rattle.mc_model.specs.Made.{is_first, is_current, chain_start, first_vertices, wire_of}
 use Rattle.mc_extract.specs.Chains.{place}
-use Rattle.mc_extract.proofs.Places.{place_at, place_of_member, member_at_place, numbers_where-rise, member-where, member-where-true, where_first}
-use Rattle.mc_extract.proofs.Chains.{corrects_causally, before_cases, next_of, rank_below, start_of_first, starts, same_start}
-use Rattle.mc_extract.proofs.Passing.{IsNextToPass, first_is, current_here, current_next, current_step, not_current}
+use Rattle.mc_extract.proofs.Places.{place_at, place_of_member, member_at_place, numbers_where-rise}
+use Rattle.mc_extract.proofs.Places.{member-where, member-where-true, where_first}
+use Rattle.mc_extract.proofs.Chains.{corrects_causally, before_cases, next_of, rank_below}
+use Rattle.mc_extract.proofs.Chains.{start_of_first, starts, same_start}
+use Rattle.mc_extract.proofs.Passing.{IsNextToPass, first_is, current_here, current_next}
+use Rattle.mc_extract.proofs.Passing.{current_step, not_current}
 
 -- the number of wires
 abbrev pub wire_count : OpenGraph → (ℕ → ℕ) → ℕ

@@ -1,5 +1,6 @@
 -- What the finder holds of the vertices, and its answer.
-use Rattle.std.specs.Prelude.{◌≡◌, ℕ, ◌<◌, false, cond, List, map, length, unwrap_or, is_none, slice_index_or, Option}
+use Rattle.std.specs.Prelude.{◌≡◌, ℕ, ◌<◌, false, cond, List, map, length, unwrap_or, is_none}
+use Rattle.std.specs.Prelude.{slice_index_or, Option}
 use Rattle.mc_model.specs.Numbers.{numbers_from}
 use Rattle.mc_model.specs.Bits.{Bits}
 use Rattle.mc_model.specs.Graph.{OpenGraph, size}

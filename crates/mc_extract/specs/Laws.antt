@@ -1,13 +1,13 @@
 -- The laws of extracted circuits, over the amplitude ring with any `half` above 0.
 use Rattle.std.specs.Prelude.{◌≡◌, ◌⊎◌, ℕ, ◌+◌, ◌-◌, ◌*◌, ◌<◌, ◌≤◌, Bool, false, List, length}
-use Rattle.std.specs.List.{list_any}
 use Rattle.mc_model.specs.Phase.{turn, doubled}
 use Rattle.mc_model.specs.Bits.{Bits}
 use Rattle.mc_model.specs.Ring.{ring}
-use Rattle.mc_model.specs.Pattern.{Circuit, Pattern, has_constant}
+use Rattle.mc_model.specs.Pattern.{Circuit, Pattern, HasNoConstants}
 use Rattle.mc_model.specs.Amplitude.{circuit_table, zero_branch, circuit_scale}
 use Rattle.mc_model.specs.Valid.{IsValidPattern, IsValidCircuit}
-use Rattle.mc_model.specs.Graph.{OpenGraph, size, is_output, IsOpenGraph, graph_of, fixed_corrections, zero_pattern}
+use Rattle.mc_model.specs.Graph.{OpenGraph, size, is_output, IsOpenGraph, graph_of}
+use Rattle.mc_model.specs.Graph.{fixed_corrections, zero_pattern}
 use Rattle.mc_model.specs.Flow.{IsCausalFlow}
 use Rattle.mc_model.specs.Choice.{IsChosenCausalFlow, IsChosenStuckSet}
 use Rattle.mc_model.specs.Made.{extracted_circuit}
@@ -60,7 +60,7 @@ pub record IsExtractedFrom (half : ℕ) (p : Pattern) (c : Circuit) : Type 0 whe
       circuit_table (ring half) c y b
       ≡ turn (ring half) phase
       (doubled (ring half) (fixed_count half p) (zero_branch (ring half) p y b))
-  pub exact : list_any has_constant p.commands ≡ false → (phase ≡ 0) × (fixed_count half p ≡ 0)
+  pub exact : HasNoConstants p.commands → (phase ≡ 0) × (fixed_count half p ≡ 0)
 
 abbrev pub CircuitsAreExtracted : Type 0
 CircuitsAreExtracted = (half : ℕ) → 0 < half → (p : Pattern) → IsValidPattern p →

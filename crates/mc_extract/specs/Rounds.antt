@@ -1,5 +1,7 @@
 -- The rounds of the finder of causal flows: each takes the vertices that can be corrected next.
-use Rattle.std.specs.Prelude.{◌≡◌, ℕ, zero, suc, ◌+◌, ◌<◌, Bool, false, cond, not, ◌&&◌, ◌||◌, nat_eq, filter, List, [], ◌∷◌, find, unwrap_or, is_none, Option, Some, None}
+use Rattle.std.specs.Prelude.{◌≡◌, ℕ, zero, suc, ◌+◌, ◌<◌, Bool, false, cond, not, ◌&&◌, ◌||◌}
+use Rattle.std.specs.Prelude.{nat_eq, filter, List, [], ◌∷◌, find, unwrap_or, is_none, Option, Some}
+use Rattle.std.specs.Prelude.{None}
 use Rattle.mc_model.specs.Numbers.{numbers_from, numbers_where}
 use Rattle.mc_model.specs.Bits.{Bits}
 use Rattle.mc_model.specs.Graph.{OpenGraph, size, is_input, is_output, joins}

@@ -1,15 +1,21 @@
 //! What is proved of extracted circuits, and of the finder of causal flows.
 
-ghost use Rattle.mc_extract.specs.Laws.{ChosenCausalFlowsAreFlows, ChosenCausalFlowsAreUnique, ChosenStuckSetsAreUnique, CircuitsAreExtracted, ExtractedCircuitHasTable, ExtractedCircuitScale, ExtractedCircuitsAreValid, ExtractedGatesAreEdges, RoundsFindCausalFlow};
+ghost use Rattle.mc_extract.specs.Laws.{ChosenCausalFlowsAreFlows, ChosenCausalFlowsAreUnique};
+ghost use Rattle.mc_extract.specs.Laws.{ChosenStuckSetsAreUnique, CircuitsAreExtracted};
+ghost use Rattle.mc_extract.specs.Laws.{ExtractedCircuitHasTable, ExtractedCircuitScale};
+ghost use Rattle.mc_extract.specs.Laws.{ExtractedCircuitsAreValid, ExtractedGatesAreEdges};
+ghost use Rattle.mc_extract.specs.Laws.{RoundsFindCausalFlow};
 
 use mc_graph::{graphs_keep_zero_branch, graphs_without_constants};
 
-/// Whatever the causal flow, the table of the extracted circuit is the zero branch of the graph, doubled for each fixed correction.
+/// Whatever the causal flow, the table of the extracted circuit is the zero branch of the graph,
+/// doubled for each fixed correction.
 pub fn extracted_circuit_has_table()
     ensures { ExtractedCircuitHasTable }
 {}
 
-/// The scale of the extracted circuit is the number of vertices that are no inputs, and two for each fixed correction.
+/// The scale of the extracted circuit is the number of vertices that are no inputs, and two for
+/// each fixed correction.
 pub fn extracted_circuit_scale()
     ensures { ExtractedCircuitScale }
 {}
@@ -24,7 +30,8 @@ pub fn extracted_gates_are_edges()
     ensures { ExtractedGatesAreEdges }
 {}
 
-/// Whatever the causal flow of a pattern's graph, the table of the extracted circuit is the zero branch of the pattern, up to one phase and doublings.
+/// Whatever the causal flow of a pattern's graph, the table of the extracted circuit is the zero
+/// branch of the pattern, up to one phase and doublings.
 pub fn circuits_are_extracted()
     ensures { CircuitsAreExtracted }
 {
@@ -32,7 +39,8 @@ pub fn circuits_are_extracted()
     graphs_without_constants();
 }
 
-/// The rounds of the finder give the chosen causal flow where there is one, and else the chosen stuck set.
+/// The rounds of the finder give the chosen causal flow where there is one, and else the chosen
+/// stuck set.
 pub fn rounds_find_causal_flow()
     ensures { RoundsFindCausalFlow }
 {}

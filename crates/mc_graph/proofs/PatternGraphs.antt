@@ -1,5 +1,6 @@
 -- The graph of a pattern, vertex by vertex; it is an open graph.
-use Rattle.std.proofs.Common.{◌≡◌, ℕ, zero, suc, ◌+◌, ◌<◌, Bool, true, false, cond, not, map, length, List, [], ◌∷◌, Some, None, refl, sym, ◌∙◌, ap, arith}
+use Rattle.std.proofs.Common.{◌≡◌, ℕ, zero, suc, ◌+◌, ◌<◌, Bool, true, false, cond, not, map}
+use Rattle.std.proofs.Common.{length, List, [], ◌∷◌, Some, None, refl, sym, ◌∙◌, ap, arith}
 use Rattle.std.specs.Prelude.{Option, nat_eq, slice_get, unwrap_or, option_map, is_none}
 use Rattle.std.proofs.lemmas.Bool.{cases_Bool}
 use Rattle.std.proofs.lemmas.List.{length-map}
@@ -9,7 +10,8 @@ use Rattle.mc_model.specs.Numbers.{numbers_from, numbers_where}
 use Rattle.mc_model.specs.Pattern.{Command, Prep, Ent, Meas, FixX, FixZ, Pattern}
 use Rattle.mc_model.specs.Valid.{measured, IsValidPattern}
 use Rattle.mc_model.specs.StandardForm.{is_edge}
-use Rattle.mc_model.specs.Graph.{IsOpenGraph, Fixed, not_fixed, base_angle, fixed_at, is_output, angle_in, constants_at, turned_angle, graph_of}
+use Rattle.mc_model.specs.Graph.{IsOpenGraph, Fixed, not_fixed, base_angle, fixed_at, is_output}
+use Rattle.mc_model.specs.Graph.{angle_in, constants_at, turned_angle, graph_of}
 use Rattle.mc_model.proofs.BitLemmas.{not_not}
 use Rattle.mc_model.proofs.NumberLists.{length-numbers_from, numbers_where-same, member_once}
 use Rattle.mc_graph.proofs.RisingEdges.{pairs_rise}

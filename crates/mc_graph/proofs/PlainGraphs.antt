@@ -1,5 +1,7 @@
 -- Where no signal has the constant, graphs have the base angles and no fixed corrections.
-use Rattle.std.proofs.Common.{◌≡◌, ℕ, zero, suc, ◌+◌, ◌*◌, ◌%◌, ◌<◌, ◌≤◌, Bool, true, false, cond, ◌||◌, map, length, replicate, List, [], ◌∷◌, ◌++◌, Some, None, refl, ◌∙◌, ap, ap₂, arith}
+use Rattle.std.proofs.Common.{◌≡◌, ℕ, zero, suc, ◌+◌, ◌*◌, ◌%◌, ◌<◌, ◌≤◌, Bool, true, false, cond}
+use Rattle.std.proofs.Common.{◌||◌, map, length, replicate, List, [], ◌∷◌, ◌++◌, Some, None, refl}
+use Rattle.std.proofs.Common.{◌∙◌, ap, ap₂, arith}
 use Rattle.std.specs.Prelude.{Option, nat_eq, option_map, flat_map}
 use Rattle.std.specs.List.{list_any}
 use Rattle.std.proofs.Math.Nat.{mod-eq_of_lt}
@@ -13,8 +15,11 @@ use Rattle.mc_model.specs.Signals.{Signal, one_signal}
 use Rattle.mc_model.specs.Pattern.{Command, Prep, Ent, Meas, FixX, FixZ, has_constant}
 use Rattle.mc_model.specs.Phase.{measured_angle}
 use Rattle.mc_model.specs.Valid.{measured}
-use Rattle.mc_model.specs.StandardForm.{where_same, sum_over_places, x_part, x_sum, first_part, second_part, first_sum, second_sum, is_edge}
-use Rattle.mc_model.specs.Graph.{OpenGraph, size, Fixed, not_fixed, fixed_at, edge, angle_in, constants_at, turned_angle, graph_of, where_fixed, corrections_at, fixed_corrections}
+use Rattle.mc_model.specs.StandardForm.{where_same, sum_over_places, x_part, x_sum, first_part}
+use Rattle.mc_model.specs.StandardForm.{second_part, first_sum, second_sum, is_edge}
+use Rattle.mc_model.specs.Graph.{OpenGraph, size, Fixed, not_fixed, fixed_at, edge, angle_in}
+use Rattle.mc_model.specs.Graph.{constants_at, turned_angle, graph_of, where_fixed, corrections_at}
+use Rattle.mc_model.specs.Graph.{fixed_corrections}
 use Rattle.mc_graph.specs.Laws.{GraphsWithoutConstants}
 use Rattle.mc_graph.proofs.PatternGraphs.{fixed_of_vertex}
 

@@ -1,5 +1,7 @@
 -- At outcomes 0 the pattern of a graph does exactly what the standard form of its source does.
-use Rattle.std.proofs.Common.{◌≡◌, ℕ, zero, suc, ◌+◌, ◌-◌, ◌*◌, ◌%◌, ◌≤◌, Bool, true, false, cond, not, ◌&&◌, map, length, List, [], ◌∷◌, ◌++◌, refl, sym, ◌∙◌, ap, ap₂, append-nil, arith}
+use Rattle.std.proofs.Common.{◌≡◌, ℕ, zero, suc, ◌+◌, ◌-◌, ◌*◌, ◌%◌, ◌≤◌, Bool, true, false, cond}
+use Rattle.std.proofs.Common.{not, ◌&&◌, map, length, List, [], ◌∷◌, ◌++◌, refl, sym, ◌∙◌, ap, ap₂}
+use Rattle.std.proofs.Common.{append-nil, arith}
 use Rattle.std.specs.Prelude.{Option, nat_lt, unwrap_or, option_map, flat_map}
 use Rattle.std.proofs.Math.Nat.{mod-mod}
 use Rattle.std.proofs.lemmas.List.{map-append}
@@ -13,8 +15,11 @@ use Rattle.mc_model.specs.Pattern.{Command, Prep, Ent, Meas, FixX, FixZ, Pattern
 use Rattle.mc_model.specs.Amplitude.{Amps, act, after, start, amp}
 use Rattle.mc_model.specs.Valid.{prepared, measured, IsValidPattern}
 use Rattle.mc_model.specs.Translation.{preparations}
-use Rattle.mc_model.specs.StandardForm.{is_edge, fix_x, fix_z, corrections_below, measurements_with, first_sum, second_sum, standard_commands}
-use Rattle.mc_model.specs.Graph.{edge, OpenGraph, Fixed, not_fixed, is_output, angle_in, turned_angle, graph_of, entanglings, graph_state, bare_measurement, where_fixed, corrections_at, fixed_corrections, zero_pattern}
+use Rattle.mc_model.specs.StandardForm.{is_edge, fix_x, fix_z, corrections_below, measurements_with}
+use Rattle.mc_model.specs.StandardForm.{first_sum, second_sum, standard_commands}
+use Rattle.mc_model.specs.Graph.{edge, OpenGraph, Fixed, not_fixed, is_output, angle_in}
+use Rattle.mc_model.specs.Graph.{turned_angle, graph_of, entanglings, graph_state, bare_measurement}
+use Rattle.mc_model.specs.Graph.{where_fixed, corrections_at, fixed_corrections, zero_pattern}
 use Rattle.mc_model.proofs.BitLemmas.{xor_false, replaced_itself}
 use Rattle.mc_model.proofs.SignalLemmas.{zero_value}
 use Rattle.mc_model.proofs.AmplitudeLemmas.{after-append, after-preparations}

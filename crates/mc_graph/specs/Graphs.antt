@@ -1,5 +1,6 @@
 -- What every open graph keeps, and how it lies in rows of neighbours.
-use Rattle.std.specs.Prelude.{◌≡◌, ℕ, ◌*◌, ◌<◌, List, [], map, length, IsTrue, Some, slice_index_or}
+use Rattle.std.specs.Prelude.{◌≡◌, ℕ, ◌*◌, ◌<◌, List, [], map, length, IsTrue, Some}
+use Rattle.std.specs.Prelude.{slice_index_or}
 use Rattle.mc_model.specs.Names.{Name}
 use Rattle.mc_model.specs.Numbers.{is_member, pairs_below}
 use Rattle.mc_model.specs.Steps.{is_permitted}

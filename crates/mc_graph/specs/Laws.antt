@@ -1,15 +1,15 @@
 -- The laws of the graphs of patterns, over the amplitude ring with any `half` above 0.
 use Rattle.std.specs.Prelude.{◌≡◌, ℕ, ◌*◌, ◌<◌, false, List, [], length, map, replicate, Some}
-use Rattle.std.specs.List.{list_any}
 use Rattle.mc_model.specs.Bits.{all_zero}
 use Rattle.mc_model.specs.Ring.{ring}
 use Rattle.mc_model.specs.Numbers.{numbers_from, pairs_below}
-use Rattle.mc_model.specs.Pattern.{Command, Pattern, has_constant}
+use Rattle.mc_model.specs.Pattern.{Command, Pattern, HasNoConstants}
 use Rattle.mc_model.specs.Amplitude.{pattern_scale}
 use Rattle.mc_model.specs.Alike.{AlikeBranches}
 use Rattle.mc_model.specs.Valid.{IsValidPattern}
 use Rattle.mc_model.specs.StandardForm.{is_edge}
-use Rattle.mc_model.specs.Graph.{OpenGraph, IsOpenGraph, edge, not_fixed, angle_in, graph_of, fixed_corrections, zero_pattern}
+use Rattle.mc_model.specs.Graph.{OpenGraph, IsOpenGraph, edge, not_fixed, angle_in, graph_of}
+use Rattle.mc_model.specs.Graph.{fixed_corrections, zero_pattern}
 
 -- the graph of a pattern is an open graph; its pattern has the scale of the pattern, and its zero
 -- branch up to one power of `w`, which is 1 where no signal has the constant
@@ -17,7 +17,7 @@ pub record KeepsZeroBranch (half : ℕ) (p : Pattern) : Type 0 where
   pub graph : IsOpenGraph (graph_of half p)
   pub scale : pattern_scale (zero_pattern (graph_of half p)) ≡ pattern_scale p
   pub alike : AlikeBranches (ring half) (zero_pattern (graph_of half p)) all_zero p all_zero
-  pub exact : list_any has_constant p.commands ≡ false → alike.phase ≡ 0
+  pub exact : HasNoConstants p.commands → alike.phase ≡ 0
 
 abbrev pub GraphsKeepZeroBranch : Type 0
 GraphsKeepZeroBranch = (half : ℕ) → 0 < half → (p : Pattern) → IsValidPattern p →
@@ -46,5 +46,5 @@ pub record IsPlainGraph (half : ℕ) (p : Pattern) : Type 0 where
 
 -- where no signal has the constant
 abbrev pub GraphsWithoutConstants : Type 0
-GraphsWithoutConstants = (half : ℕ) (p : Pattern) → list_any has_constant p.commands ≡ false →
+GraphsWithoutConstants = (half : ℕ) (p : Pattern) → HasNoConstants p.commands →
     IsPlainGraph half p

@@ -4,7 +4,8 @@ ghost use Rattle.mc_graph.specs.Laws.{GraphsKeepZeroBranch, GraphsWithoutConstan
 
 use mc_rules::{standard_is_alike, standard_keeps_zero_branch};
 
-/// The graph of a pattern is an open graph, whose pattern has the pattern's zero branch up to one phase, and exactly where no signal has the constant.
+/// The graph of a pattern is an open graph, whose pattern has the pattern's zero branch up to one
+/// phase, and exactly where no signal has the constant.
 pub fn graphs_keep_zero_branch()
     ensures { GraphsKeepZeroBranch }
 {

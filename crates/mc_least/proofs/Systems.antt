@@ -3,7 +3,7 @@ use Rattle.std.specs.Prelude.{◌≡◌, ◌⊎◌, ℕ, zero, suc, ◌<◌, Boo
 use Rattle.std.specs.Prelude.{refl}
 use Rattle.std.proofs.Common.{arith, sym, ap, ap₂, ◌∙◌, inl, inr}
 use Rattle.std.proofs.lemmas.Bool.{eqb-true, eq-eqb, ne_eqb, cases_eq, true≢false, false≢true}
-use Rattle.mc_model.specs.Bits.{◌⊻◌, Bits, all_zero, parity, odd}
+use Rattle.mc_model.specs.Bits.{◌⊻◌, Bits, all_zero, odd}
 use Rattle.mc_model.proofs.OddSums.{and_xor, xor_and, odd-same, odd-none, odd-xor, odd-one}
 
 -- the sum of the products
@@ -102,7 +102,7 @@ no_columns a t (inr none) =
 -- a column that is not open
 closed_column : (a : System) (m : ℕ) (t : Bits) → a.is_open m ≡ false → SolvedOrRefuted a m t →
     SolvedOrRefuted a (suc m) t
-unfolding parity
+unfolding odd
 closed_column a m t closed (inl solved) =
     let s : Bits = solved.0 in
     let h : Solves a m t s = solved.1 in
@@ -134,7 +134,7 @@ closed_column a m t closed (inr refuted) =
 
 -- a solution that does without the column
 without_column : (a : System) (m : ℕ) (t s : Bits) → Solves a m t s → Solves a (suc m) t s
-unfolding parity
+unfolding odd
 without_column a m t s h = record {
   below = λ w e. let l = h.below w e in omega arith;
   open_ones = h.open_ones;
@@ -150,7 +150,7 @@ added m s = λ w. nat_eq w m || s w
 -- a solution for the target with the column added
 with_column : (a : System) (m : ℕ) (t s : Bits) → a.is_open m ≡ true →
     Solves a m (λ v. t v ⊻ a.column m v) s → Solves a (suc m) t (added m s)
-unfolding parity
+unfolding odd
 with_column a m t s opened h = record {
   below = λ w e. below w e (nat_eq w m) refl;
   open_ones = λ w e. open_one w e (nat_eq w m) refl;

@@ -1,5 +1,6 @@
 -- Where a reader of words stands in its text.
 use Rattle.std.specs.Prelude.{◌≡◌, ℕ, ◌+◌, ◌≤◌, List, length, Option, Some, None, IfSome}
+use Rattle.mc_model.specs.Limits.{most_bytes}
 use Rattle.mc_lex.specs.declared.part.Part.{Part}
 use Rattle.mc_lex.specs.Lines.{past_items, lines_from, end_of}
 use Rattle.mc_lex.specs.Left.{Left, before}
@@ -18,7 +19,7 @@ left_of text (Some part) after number = record {
 -- lines and columns are no more than the text is long
 pub record IsPlaced (text : List ℕ) (current : Option Part) (after : List ℕ) (number : ℕ)
     (end : Option (ℕ × ℕ)) : Type 0 where
-  pub short : length text ≤ 8388608
+  pub short : length text ≤ most_bytes
   pub from_one : 1 ≤ number
   pub lines : number + length after ≤ length text + 1
   pub columns : IfSome current (λ part. part.column + length part.bytes.now ≤ length text + 1)

@@ -1,6 +1,7 @@
 //! Lines, and the tokens of a line one by one.
 
 ghost use Rattle.std.specs.Prelude.{◌≡◌, ℕ, ◌+◌, ◌^◌, ◌<◌, ◌≤◌, [], length, IfSome, IfNone, false};
+ghost use Rattle.mc_model.specs.Limits.{most_bytes};
 ghost use Rattle.mc_lex.specs.Lines.{tokens, lines_from, with_items, end_of};
 ghost use Rattle.mc_lex.specs.First.{starts_blank};
 ghost use Rattle.mc_lex.specs.Parts.{tokens_in, IsFirst, IsFirstLine};
@@ -114,7 +115,7 @@ fn token_at(part: Part<'_>) -> Option<(Token<'_>, Part<'_>)>
 
 /// The line and the column behind the last byte of a text.
 pub(crate) fn end_of_text(text: &[u8]) -> (u32, u32)
-    requires { length text.now ≤ 8_388_608 }
+    requires { length text.now ≤ most_bytes }
     ensures { result ≡ end_of text.now }
 {
     let (mut line, mut column) = (1, 1);

@@ -1,6 +1,7 @@
 //! Going through the words of a text.
 
 ghost use Rattle.std.specs.Prelude.{◌≡◌, ◌≤◌, length};
+ghost use Rattle.mc_model.specs.Limits.{most_bytes};
 ghost use Rattle.mc_lex.specs.Given.{item_of, first_of, EndsAt};
 ghost use Rattle.mc_lex.specs.Left.{begin, has_line, on_first, passed};
 ghost use Rattle.mc_lex.specs.Places.{WordsAreSlices, LinesInOrder};
@@ -39,7 +40,7 @@ impl<'a> Words<'a> {
     /// Stands before the first line. The lines are those with a word or a byte that is not allowed;
     /// each word of them is the slice of the text at its line and column, and they come in order.
     pub fn new(text: &'a [u8]) -> Words<'a>
-        requires { length text.now ≤ 8_388_608 }
+        requires { length text.now ≤ most_bytes }
         ensures lines { result ≡ begin text.now }
         ensures slices { WordsAreSlices text.now }
         ensures in_order { LinesInOrder text.now }

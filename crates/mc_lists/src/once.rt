@@ -1,6 +1,7 @@
 //! Lists that have each number once.
 
-ghost use Rattle.std.specs.Prelude.{◌≡◌, ◌↔◌, ℕ, ◌<◌, ◌≤◌, All, IsTrue, length, count_by, nat_eq, cond, slice_index_or, false};
+ghost use Rattle.std.specs.Prelude.{◌≡◌, ◌↔◌, ℕ, ◌<◌, ◌≤◌, All, IsTrue, length, count_by, nat_eq};
+ghost use Rattle.std.specs.Prelude.{cond, slice_index_or, false};
 ghost use Rattle.mc_model.specs.Numbers.{ListsOnce};
 
 /// How often a number stands in a list.
@@ -29,7 +30,8 @@ fn are_there_as_due(numbers: &[u16], due: &[bool]) -> bool
     true
 }
 
-/// Whether a list has each number that is due once, and no other. The place of a number in `due` says whether it is due.
+/// Whether a list has each number that is due once, and no other. The place of a number in `due`
+/// says whether it is due.
 pub fn lists_once(numbers: &[u16], due: &[bool]) -> bool
     requires { length due.now ≤ 65_536 }
     ensures { IsTrue result ↔ ListsOnce (length due.now) (λ q. slice_index_or due.now q false) numbers.now }

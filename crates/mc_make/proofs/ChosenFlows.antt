@@ -1,11 +1,14 @@
 -- Patterns of flows in standard form: signals of falling layers, and none but first signals where
 -- the flow is the chosen one.
-use Rattle.std.proofs.Common.{◌≡◌, ℕ, zero, suc, ◌+◌, ◌-◌, ◌<◌, ◌≤◌, Bool, true, false, ◌&&◌, ◌||◌, not, List, [], ◌∷◌, ◌++◌, length, map, refl, sym, ◌∙◌, ap, ap₂, arith}
+use Rattle.std.proofs.Common.{◌≡◌, ℕ, zero, suc, ◌+◌, ◌-◌, ◌<◌, ◌≤◌, Bool, true, false, ◌&&◌, ◌||◌}
+use Rattle.std.proofs.Common.{not, List, [], ◌∷◌, ◌++◌, length, map, refl, sym, ◌∙◌, ap, ap₂, arith}
 use Rattle.std.specs.Prelude.{⊤, nat_eq, nat_lt, flat_map, fold, max}
 use Rattle.std.specs.List.{AllByRecursion, list_any}
-use Rattle.std.proofs.lemmas.Bool.{eq-eqb, eqb-true, ne_eqb, lt-ltb, ltb-true, and_parts, or_cases, not-true, cases_Bool, true≢false, false≢true}
+use Rattle.std.proofs.lemmas.Bool.{eq-eqb, eqb-true, ne_eqb, lt-ltb, ltb-true, and_parts, or_cases}
+use Rattle.std.proofs.lemmas.Bool.{not-true, cases_Bool, true≢false, false≢true}
 use mathlib.Core.Path.{subst}
 use mathlib.Core.Logic.{inl, inr}
+use Rattle.mc_model.proofs.ChosenFlows.{chosen_is_flow}
 use Rattle.mc_model.specs.Numbers.{numbers_from, numbers_where, is_member}
 use Rattle.mc_model.specs.Bits.{Bits}
 use Rattle.mc_model.specs.Signals.{Signal, no_signal, signal_of}
@@ -14,55 +17,18 @@ use Rattle.mc_model.specs.Valid.{AllDone}
 use Rattle.mc_model.specs.Translation.{preparations}
 use Rattle.mc_model.specs.StandardForm.{first_sum, second_sum, standard_form}
 use Rattle.mc_model.specs.Shift.{HasNoSecondSignals}
-use Rattle.mc_model.specs.Graph.{Edge, OpenGraph, size, is_output, odd_neighbourhood, IsOpenGraph, entanglings, graph_state, bare_measurement, fixed_corrections}
+use Rattle.mc_model.specs.Graph.{Edge, OpenGraph, size, is_output, odd_neighbourhood, IsOpenGraph}
+use Rattle.mc_model.specs.Graph.{entanglings, graph_state, bare_measurement, fixed_corrections}
 use Rattle.mc_model.specs.Flow.{CorrectsAt, IsFlow, depth_of}
 use Rattle.mc_model.specs.Choice.{CorrectsAlone, IsChosenFlow}
 use Rattle.mc_model.specs.Made.{measuring_order, corrected_measurement, flow_pattern}
 use Rattle.mc_model.specs.Depth.{NamesOutcome, IsChainFrom, IsChain, IsDependenceDepth}
-use Rattle.mc_make.proofs.MeasuringOrder.{IsToMeasure, IsOrder, IsWhere, where_all, all-append, all-weaker, measured_in_order, below_depth}
+use Rattle.mc_make.proofs.MeasuringOrder.{IsToMeasure, IsOrder, IsWhere, where_all, all-append}
+use Rattle.mc_make.proofs.MeasuringOrder.{all-weaker, measured_in_order, below_depth}
 use Rattle.mc_make.proofs.FixedCorrections.{fixed_all, fixed_output}
-use Rattle.mc_make.proofs.FlowSignals.{all_at, IsOpening, GivesNoSecond, no_second_sum, GivesFirstIn, first_sum_in, Measures, MeasuresWith, standard_measures}
-
--- ---- the chosen flow
-
-pub chosen_is_flow : (g : OpenGraph) (sets : ℕ → Bits) (layer : ℕ → ℕ) →
-    IsChosenFlow g sets layer → IsFlow g sets layer
-chosen_is_flow g sets layer chosen = record {
-  outputs = λ v l e. outputs v l e;
-  positive = λ i l e. positive i l e;
-  corrects = λ i l e. corrects i l e ((chosen.least_sets i l e).has);
-}
-  where
-    outputs : (v : ℕ) → v < size g → is_output g v ≡ true → layer v ≡ 0
-    outputs v l e = let h = chosen.least_layers v l in sym h.reached ∙ h.flow.outputs v l e
-
-    positive : (i : ℕ) → i < size g → is_output g i ≡ false → 1 ≤ layer i
-    positive i l e =
-        let h = chosen.least_layers i l in
-        let reached = h.reached in
-        let low = h.flow.positive i l e in
-        omega arith
-
-    corrects : (i : ℕ) → i < size g → is_output g i ≡ false → CorrectsAlone g layer i (sets i) →
-        CorrectsAt g (sets i) layer i
-    corrects i l e at = record {
-      within = at.within;
-      no_input = at.no_input;
-      not_itself = elim (cases_Bool (sets i i)) [
-        | inl h ↦ (let low = at.later i h in absurd (omega arith))
-        | inr h ↦ h
-      ];
-      odd_itself = at.alone i l e ∙ eq-eqb i i refl;
-      set_later = at.later;
-      odd_later = λ k lk ne odd. elim (cases_Bool (is_output g k)) [
-        | inl out ↦
-            let none = outputs k lk out in
-            let low = positive i l e in
-            omega arith
-        | inr inner ↦
-            absurd (true≢false (sym odd ∙ at.alone k lk inner ∙ ne_eqb k i ne))
-      ];
-    }
+use Rattle.mc_make.proofs.FlowSignals.{all_at, IsOpening, GivesNoSecond, no_second_sum}
+use Rattle.mc_make.proofs.FlowSignals.{GivesFirstIn, first_sum_in, Measures, MeasuresWith}
+use Rattle.mc_make.proofs.FlowSignals.{standard_measures}
 
 -- ---- the commands of a flow's pattern
 

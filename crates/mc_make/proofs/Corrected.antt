@@ -1,11 +1,12 @@
 -- A measurement with its corrections, as a measurement behind what the corrections do.
-use Rattle.std.proofs.Common.{◌≡◌, ℕ, ◌<◌, Bool, true, false, ◌&&◌, not, List, map, refl, sym, ◌∙◌, ap, ap₂, arith}
+use Rattle.std.proofs.Common.{◌≡◌, ℕ, ◌<◌, Bool, true, false, ◌&&◌, not, List, map, refl, sym, ◌∙◌}
+use Rattle.std.proofs.Common.{ap, ap₂, arith}
 use Rattle.std.specs.Prelude.{nat_eq, unwrap_or}
 use Rattle.std.proofs.lemmas.Bool.{eq-eqb, ne_eqb, cases_eq}
 use mathlib.Core.Path.{fun_ext}
 use mathlib.Core.Logic.{inl, inr}
 use Rattle.mc_model.specs.Phase.{PhaseOps, PhaseLaws, turn, sign, negated, measured_angle}
-use Rattle.mc_model.specs.Bits.{◌⊻◌, Bits, replaced, parity, all_zero}
+use Rattle.mc_model.specs.Bits.{◌⊻◌, Bits, replaced, parity, all_zero, odd}
 use Rattle.mc_model.specs.Numbers.{numbers_where}
 use Rattle.mc_model.specs.Signals.{Signal, value, signal_of}
 use Rattle.mc_model.specs.Pattern.{Command, FixX, FixZ}
@@ -44,7 +45,7 @@ set_sum-without n i p x l e =
     ∙ xor_false (set_sum n (without i p) x)
 
 own_value : (o : Bits) (i : ℕ) → value (signal_of i) o ≡ o i
-unfolding value parity
+unfolding value parity odd
 own_value o i = xor_false (o i)
 
 one_sign : (p v : Bool) → (p && v) ⊻ v ≡ (p ⊻ true) && v
@@ -68,13 +69,13 @@ module _ {E : Type 0} (ops : PhaseOps E) where
 
   pub bare_is : (g : OpenGraph) (i : ℕ) (f : Amps E) (x : Bits) →
       bare g i f x ≡ ops.add (f (replaced x i false)) (weighed g i (f (replaced x i true)))
-  unfolding bare weighed act value parity
+  unfolding bare weighed act value parity odd
   bare_is g i f x = refl
 
   pub measured_is : (o : Bits) (g : OpenGraph) (i : ℕ) (f : Amps E) (x : Bits) →
       act ops o (bare_measurement g i) f x
       ≡ ops.add (f (replaced x i false)) (weighed g i (sign ops (o i) (f (replaced x i true))))
-  unfolding weighed act value parity
+  unfolding weighed act value parity odd
   measured_is o g i f x = refl
 
 module _ {E : Type 0} (ops : PhaseOps E) (laws : PhaseLaws ops) where

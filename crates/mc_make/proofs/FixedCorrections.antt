@@ -1,5 +1,6 @@
 -- What holds of each fixed correction of a graph holds of all in the list.
-use Rattle.std.proofs.Common.{◌≡◌, ℕ, zero, suc, ◌+◌, ◌<◌, ◌≤◌, Bool, true, false, cond, List, [], ◌∷◌, ◌++◌, refl, sym, ◌∙◌, ap, arith}
+use Rattle.std.proofs.Common.{◌≡◌, ℕ, zero, suc, ◌+◌, ◌<◌, ◌≤◌, Bool, true, false, cond, List, []}
+use Rattle.std.proofs.Common.{◌∷◌, ◌++◌, refl, sym, ◌∙◌, ap, arith}
 use Rattle.std.specs.Prelude.{flat_map}
 use Rattle.std.specs.List.{AllByRecursion}
 use Rattle.std.proofs.lemmas.Bool.{cases_Bool, true≢false}
@@ -7,7 +8,8 @@ use mathlib.Core.Logic.{inl, inr}
 use Rattle.mc_model.specs.Numbers.{numbers_from}
 use Rattle.mc_model.specs.Signals.{one_signal}
 use Rattle.mc_model.specs.Pattern.{Command, FixX, FixZ}
-use Rattle.mc_model.specs.Graph.{Fixed, OpenGraph, size, is_output, not_fixed, fixed_at, IsOpenGraph, corrections_at, fixed_corrections}
+use Rattle.mc_model.specs.Graph.{Fixed, OpenGraph, size, is_output, not_fixed, fixed_at}
+use Rattle.mc_model.specs.Graph.{IsOpenGraph, corrections_at, fixed_corrections}
 use Rattle.mc_make.proofs.MeasuringOrder.{all-append}
 
 all_where : (P : Command → Type 0) (b : Bool) (c : Command) → (b ≡ true → P c) →

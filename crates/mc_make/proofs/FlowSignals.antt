@@ -1,6 +1,7 @@
 -- The signals of a list whose entanglings stand before its corrections, and those of its standard
 -- form.
-use Rattle.std.proofs.Common.{◌≡◌, ℕ, zero, suc, ◌+◌, Bool, true, false, cond, List, [], ◌∷◌, ◌++◌, refl, ◌∙◌, ap, ap₂}
+use Rattle.std.proofs.Common.{◌≡◌, ℕ, zero, suc, ◌+◌, Bool, true, false, cond, List, [], ◌∷◌, ◌++◌}
+use Rattle.std.proofs.Common.{refl, ◌∙◌, ap, ap₂}
 use Rattle.std.specs.Prelude.{⊤, nat_eq}
 use Rattle.std.specs.List.{AllByRecursion}
 use Rattle.std.proofs.lemmas.Bool.{eq-eqb, ne_eqb, cases_eq, cases_Bool}
@@ -10,7 +11,10 @@ use Rattle.mc_model.specs.Numbers.{pairs_at, pairs_below}
 use Rattle.mc_model.specs.Signals.{Signal, Signals, no_signal, signal_sum, toggled_all, is_empty}
 use Rattle.mc_model.specs.Pattern.{Command, Prep, Ent, Meas, FixX, FixZ}
 use Rattle.mc_model.specs.Valid.{AllDone, measured, prepared}
-use Rattle.mc_model.specs.StandardForm.{where_same, sum_over_places, x_part, x_sum, first_part, second_part, first_sum, second_sum, preparations_of, is_edge, measurements_with, fix_x, fix_z, corrections_below, standard_commands}
+use Rattle.mc_model.specs.StandardForm.{where_same, sum_over_places, x_part, x_sum, first_part}
+use Rattle.mc_model.specs.StandardForm.{second_part, first_sum, second_sum, preparations_of}
+use Rattle.mc_model.specs.StandardForm.{is_edge, measurements_with, fix_x, fix_z, corrections_below}
+use Rattle.mc_model.specs.StandardForm.{standard_commands}
 use Rattle.mc_model.proofs.ValidLemmas.{done_sum}
 use Rattle.mc_make.proofs.MeasuringOrder.{all-append}
 

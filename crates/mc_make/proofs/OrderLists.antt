@@ -1,5 +1,6 @@
 -- The order of measuring has each vertex that is no output once, and falls.
-use Rattle.std.proofs.Common.{◌≡◌, ℕ, zero, suc, ◌+◌, ◌<◌, ◌≤◌, Bool, true, false, cond, ◌&&◌, ◌||◌, not, List, [], ◌∷◌, ◌++◌, refl, sym, ◌∙◌, ap, ap₂}
+use Rattle.std.proofs.Common.{◌≡◌, ℕ, zero, suc, ◌+◌, ◌<◌, ◌≤◌, Bool, true, false, cond, ◌&&◌, ◌||◌}
+use Rattle.std.proofs.Common.{not, List, [], ◌∷◌, ◌++◌, refl, sym, ◌∙◌, ap, ap₂}
 use Rattle.std.specs.Prelude.{nat_eq, nat_lt, count_by}
 use Rattle.std.specs.List.{AllByRecursion}
 use Rattle.std.proofs.lemmas.Bool.{lt-ltb}
@@ -12,7 +13,8 @@ use Rattle.mc_model.specs.Flow.{IsFlow, depth_of}
 use Rattle.mc_model.specs.Made.{measuring_order}
 use Rattle.mc_make.specs.Laws.{IsFallingOrder}
 use Rattle.mc_model.proofs.NumberLists.{count-append, count-where}
-use Rattle.mc_make.proofs.MeasuringOrder.{IsOrder, measured_in_order, is_upto, upto_none, upto_step, upto_apart, upto_all}
+use Rattle.mc_make.proofs.MeasuringOrder.{IsOrder, measured_in_order, is_upto, upto_none, upto_step}
+use Rattle.mc_make.proofs.MeasuringOrder.{upto_apart, upto_all}
 
 one_of_two : (l a b : Bool) → (a ≡ true → b ≡ true → ⊥) →
     cond (l && a) 1 0 + cond (l && b) 1 0 ≡ cond (l && (a || b)) 1 0

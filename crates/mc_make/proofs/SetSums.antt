@@ -1,5 +1,6 @@
 -- The sum over a set of numbers: the term of one of them, and the sum over the list of the set.
-use Rattle.std.proofs.Common.{◌≡◌, ℕ, zero, suc, ◌<◌, Bool, true, false, cond, ◌&&◌, not, List, [], ◌∷◌, ◌++◌, refl, sym, ◌∙◌, ap, ap₂, arith}
+use Rattle.std.proofs.Common.{◌≡◌, ℕ, zero, suc, ◌<◌, Bool, true, false, cond, ◌&&◌, not, List, []}
+use Rattle.std.proofs.Common.{◌∷◌, ◌++◌, refl, sym, ◌∙◌, ap, ap₂, arith}
 use Rattle.std.specs.Prelude.{nat_eq}
 use Rattle.std.proofs.lemmas.Bool.{eq-eqb, ne_eqb, cases_eq}
 use mathlib.Core.Logic.{inl, inr}
@@ -11,7 +12,7 @@ use Rattle.mc_model.proofs.OddSums.{and_false, odd-same, odd-none, odd-xor}
 
 -- the term of one number alone
 pub odd-pick : (n a : ℕ) (f : Bits) → a < n → odd n (λ k. f k && nat_eq k a) ≡ f a
-unfolding parity
+unfolding parity odd
 odd-pick zero a f l = absurd (omega arith)
 odd-pick (suc n) a f l = elim (cases_eq n a) [
   | inl e ↦
@@ -45,20 +46,20 @@ odd-replaced n i p x c l =
 -- ---- the sum over the list of the numbers that pass a test
 
 pub parity-append : (qs rs : List ℕ) (x : Bits) → parity (qs ++ rs) x ≡ parity qs x ⊻ parity rs x
-unfolding parity
+unfolding parity odd
 parity-append [] rs x = refl
 parity-append (q ∷ qs) rs x =
     ap (λ (b : Bool). x q ⊻ b) (parity-append qs rs x)
     ∙ sym (xor_assoc (x q) (parity qs x) (parity rs x))
 
 parity-one : (n : ℕ) (x : Bits) (b : Bool) → parity (cond b (n ∷ []) []) x ≡ (b && x n)
-unfolding parity
+unfolding parity odd
 parity-one n x true = xor_false (x n)
 parity-one n x false = refl
 
 pub parity-numbers_where : (p : Bits) (n : ℕ) (x : Bits) →
     parity (numbers_where p n) x ≡ odd n (λ k. p k && x k)
-unfolding parity
+unfolding parity odd
 parity-numbers_where p zero x = refl
 parity-numbers_where p (suc n) x =
     ap (λ (qs : List ℕ). parity qs x) (numbers_where-last p n)

@@ -1,12 +1,14 @@
 -- Measurements at outcomes 0 may be done in any order: the zero branch of a flow's pattern.
-use Rattle.std.proofs.Common.{◌≡◌, ℕ, Bool, false, not, ◌++◌, List, [], ◌∷◌, map, refl, sym, ◌∙◌, ap, append_assoc}
+use Rattle.std.proofs.Common.{◌≡◌, ℕ, Bool, false, not, ◌++◌, List, [], ◌∷◌, map, refl, sym, ◌∙◌}
+use Rattle.std.proofs.Common.{ap, append_assoc}
 use mathlib.Core.Path.{fun_ext}
 use Rattle.mc_model.specs.Phase.{PhaseOps, PhaseLaws, sign}
 use Rattle.mc_model.specs.Bits.{◌⊻◌, Bits, all_zero}
 use Rattle.mc_model.specs.Numbers.{numbers_where}
 use Rattle.mc_model.specs.Pattern.{Command}
 use Rattle.mc_model.specs.Amplitude.{Amps, after, start, amp, branch_map, zero_branch, placed}
-use Rattle.mc_model.specs.Graph.{OpenGraph, size, is_output, IsOpenGraph, entanglings, graph_state, bare_measurement, fixed_corrections, zero_pattern}
+use Rattle.mc_model.specs.Graph.{OpenGraph, size, is_output, IsOpenGraph, entanglings, graph_state}
+use Rattle.mc_model.specs.Graph.{bare_measurement, fixed_corrections, zero_pattern}
 use Rattle.mc_model.specs.Flow.{IsFlow, depth_of}
 use Rattle.mc_model.specs.Made.{measuring_order, corrected_measurement, flow_pattern}
 use Rattle.mc_model.proofs.BitLemmas.{xor_false}

@@ -1,15 +1,16 @@
 -- The laws of patterns made from flows, over the amplitude ring with any `half` above 0.
 use Rattle.std.specs.Prelude.{◌≡◌, ℕ, ◌<◌, ◌≤◌, Bool, true, false, not, List, [], ◌∷◌, ◌++◌, length}
-use Rattle.std.specs.List.{list_any}
+use Rattle.mc_model.specs.Limits.{most_commands}
 use Rattle.mc_model.specs.Numbers.{ListsOnce}
 use Rattle.mc_model.specs.Bits.{Bits, all_zero}
 use Rattle.mc_model.specs.Ring.{ring}
 use Rattle.mc_model.specs.Signals.{Signal}
-use Rattle.mc_model.specs.Pattern.{Command, FixZ, Pattern, has_constant}
+use Rattle.mc_model.specs.Pattern.{Command, FixZ, Pattern, HasNoConstants}
 use Rattle.mc_model.specs.Amplitude.{zero_branch, pattern_scale}
 use Rattle.mc_model.specs.Alike.{AlikeBranches}
 use Rattle.mc_model.specs.Valid.{IsValidPattern}
-use Rattle.mc_model.specs.Graph.{OpenGraph, size, is_output, IsOpenGraph, graph_of, fixed_corrections, zero_pattern}
+use Rattle.mc_model.specs.Graph.{OpenGraph, size, is_output, IsOpenGraph, graph_of}
+use Rattle.mc_model.specs.Graph.{fixed_corrections, zero_pattern}
 use Rattle.mc_model.specs.Flow.{IsFlow, depth_of}
 use Rattle.mc_model.specs.Choice.{IsChosenFlow}
 use Rattle.mc_model.specs.Made.{flow_pattern, measuring_order}
@@ -49,7 +50,7 @@ FlowPatternsAreValid = (g : OpenGraph) (sets : ℕ → Bits) (layer : ℕ → �
 -- and has not too many commands
 abbrev pub FlowPatternsFit : Type 0
 FlowPatternsFit = (g : OpenGraph) (sets : ℕ → Bits) (layer : ℕ → ℕ) → IsOpenGraph g →
-    length (flow_pattern g sets layer).commands ≤ 262144
+    length (flow_pattern g sets layer).commands ≤ most_commands
 
 -- the pattern without a flow is valid
 abbrev pub ZeroPatternsAreValid : Type 0
@@ -63,12 +64,7 @@ FlowPatternsKeepScale = (g : OpenGraph) (sets : ℕ → Bits) (layer : ℕ → �
 -- without fixed corrections no signal of a flow's pattern has the constant
 abbrev pub FlowPatternsHaveNoConstants : Type 0
 FlowPatternsHaveNoConstants = (g : OpenGraph) (sets : ℕ → Bits) (layer : ℕ → ℕ) →
-    fixed_corrections g ≡ [] → list_any has_constant (flow_pattern g sets layer).commands ≡ false
-
--- the chosen flow is a flow
-abbrev pub ChosenFlowsAreFlows : Type 0
-ChosenFlowsAreFlows = (g : OpenGraph) (sets : ℕ → Bits) (layer : ℕ → ℕ) →
-    IsChosenFlow g sets layer → IsFlow g sets layer
+    fixed_corrections g ≡ [] → HasNoConstants (flow_pattern g sets layer).commands
 
 -- no flow is less deep than the chosen one
 abbrev pub ChosenFlowsAreLeastDeep : Type 0
@@ -102,7 +98,7 @@ pub record IsMadeFrom (half : ℕ) (p q : Pattern) : Type 0 where
   pub valid : IsValidPattern q
   pub scale : pattern_scale q ≡ pattern_scale p
   pub alike : (o : Bits) → AlikeBranches (ring half) q o p all_zero
-  pub exact : list_any has_constant p.commands ≡ false → (y : List Bool) (b : Bits) →
+  pub exact : HasNoConstants p.commands → (y : List Bool) (b : Bits) →
       zero_branch (ring half) q y b ≡ zero_branch (ring half) p y b
 
 abbrev pub FlowPatternsAreMade : Type 0

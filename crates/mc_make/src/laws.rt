@@ -1,6 +1,12 @@
 //! What is proved of the patterns that are made from flows.
 
-ghost use Rattle.mc_make.specs.Laws.{ChosenFlowsAreFlows, ChosenFlowsAreLeastDeep, ChosenPatternsFixZOnOutputs, ChosenPatternsHaveNoSecondSignals, DependenceWithinLayers, FlowPatternsAreDeterministic, FlowPatternsAreMade, FlowPatternsAreValid, FlowPatternsFit, FlowPatternsHaveNoConstants, FlowPatternsKeepScale, MeasuringOrderFalls, ZeroBranchOfFlowPattern, ZeroPatternsAreValid};
+ghost use Rattle.mc_make.specs.Laws.{ChosenFlowsAreLeastDeep, ChosenPatternsFixZOnOutputs};
+ghost use Rattle.mc_make.specs.Laws.{ChosenPatternsHaveNoSecondSignals, DependenceWithinLayers};
+ghost use Rattle.mc_make.specs.Laws.{FlowPatternsAreDeterministic, FlowPatternsAreMade};
+ghost use Rattle.mc_make.specs.Laws.{FlowPatternsAreValid, FlowPatternsFit};
+ghost use Rattle.mc_make.specs.Laws.{FlowPatternsHaveNoConstants, FlowPatternsKeepScale};
+ghost use Rattle.mc_make.specs.Laws.{MeasuringOrderFalls, ZeroBranchOfFlowPattern};
+ghost use Rattle.mc_make.specs.Laws.{ZeroPatternsAreValid};
 
 use mc_graph::graphs_keep_zero_branch;
 
@@ -9,7 +15,8 @@ pub fn flow_patterns_are_deterministic()
     ensures { FlowPatternsAreDeterministic }
 {}
 
-/// For every flow of an open graph its pattern has the zero branch of the graph's pattern without a flow.
+/// For every flow of an open graph its pattern has the zero branch of the graph's pattern without a
+/// flow.
 pub fn zero_branch_of_flow_pattern()
     ensures { ZeroBranchOfFlowPattern }
 {}
@@ -29,7 +36,8 @@ pub fn zero_patterns_are_valid()
     ensures { ZeroPatternsAreValid }
 {}
 
-/// The pattern of a flow prepares and measures as many qubits as the graph's pattern without a flow.
+/// The pattern of a flow prepares and measures as many qubits as the graph's pattern without a
+/// flow.
 pub fn flow_patterns_keep_scale()
     ensures { FlowPatternsKeepScale }
 {}
@@ -42,11 +50,6 @@ pub fn flow_patterns_fit()
 /// Where the graph has no fixed corrections, no signal of a flow's pattern has the constant.
 pub fn flow_patterns_have_no_constants()
     ensures { FlowPatternsHaveNoConstants }
-{}
-
-/// The chosen flow is a flow.
-pub fn chosen_flows_are_flows()
-    ensures { ChosenFlowsAreFlows }
 {}
 
 /// No flow of the graph is less deep than the chosen one.
@@ -69,7 +72,8 @@ pub fn dependence_within_layers()
     ensures { DependenceWithinLayers }
 {}
 
-/// Whatever the flow of a pattern's graph, each branch of the flow's pattern is alike with the zero branch of the pattern.
+/// Whatever the flow of a pattern's graph, each branch of the flow's pattern is alike with the zero
+/// branch of the pattern.
 pub fn flow_patterns_are_made()
     ensures { FlowPatternsAreMade }
 {

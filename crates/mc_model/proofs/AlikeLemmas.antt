@@ -1,5 +1,6 @@
 -- Commands that do alike may be put for one another anywhere in a list.
-use Rattle.std.proofs.Common.{◌≡◌, ℕ, ◌+◌, ◌*◌, ◌%◌, true, false, ◌&&◌, ◌++◌, List, [], ◌∷◌, refl, sym, ◌∙◌, ap, arith}
+use Rattle.std.proofs.Common.{◌≡◌, ℕ, ◌+◌, ◌*◌, ◌%◌, true, false, ◌&&◌, ◌++◌, List, [], ◌∷◌, refl}
+use Rattle.std.proofs.Common.{sym, ◌∙◌, ap, arith}
 use mathlib.Core.Path.{fun_ext}
 use Rattle.mc_model.specs.Phase.{PhaseOps, PhaseLaws, turn, negated}
 use Rattle.mc_model.specs.Bits.{Bits, replaced}
@@ -7,7 +8,8 @@ use Rattle.mc_model.specs.Signals.{value}
 use Rattle.mc_model.specs.Pattern.{Command, Prep, Ent, Meas, FixX, FixZ, Pattern}
 use Rattle.mc_model.specs.Amplitude.{Amps, act, after, start, placed, amp, branch_map}
 use Rattle.mc_model.specs.Alike.{AlikeCommands, AlikeBranches}
-use Rattle.mc_model.proofs.PhaseLemmas.{turn-add, turn_comm, turn-sum, turn-negated, sign-turn, turn-modulo}
+use Rattle.mc_model.proofs.PhaseLemmas.{turn-add, turn_comm, turn-sum, turn-negated, sign-turn}
+use Rattle.mc_model.proofs.PhaseLemmas.{turn-modulo}
 use Rattle.mc_model.proofs.AmplitudeLemmas.{after-append}
 
 module _ {E : Type 0} (ops : PhaseOps E) (laws : PhaseLaws ops) where

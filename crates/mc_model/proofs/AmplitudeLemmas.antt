@@ -1,11 +1,11 @@
 -- Amplitudes of appended lists, by the last command, and phases below a whole turn.
-use Rattle.std.proofs.Common.{◌≡◌, ℕ, ◌*◌, ◌%◌, ◌<◌, ◌&&◌, ◌++◌, zero, suc, Bool, cond, not, List, [], ◌∷◌, refl, sym, ◌∙◌, ap, ap₂, arith}
+use Rattle.std.proofs.Common.{◌≡◌, ℕ, ◌*◌, ◌%◌, ◌<◌, ◌&&◌, ◌++◌, zero, suc, Bool, cond, not, List}
+use Rattle.std.proofs.Common.{[], ◌∷◌, refl, sym, ◌∙◌, ap, ap₂, arith}
 use Rattle.mc_model.specs.Phase.{PhaseOps, PhaseLaws, turn}
 use Rattle.mc_model.specs.Bits.{◌⊻◌, Bits}
 use Rattle.mc_model.specs.Pattern.{Command, Gate}
 use Rattle.mc_model.specs.Amplitude.{Amps, act, after, act_gate, after_gates, agrees, start}
 use Rattle.mc_model.specs.Translation.{preparations}
-use Rattle.mc_model.specs.Alike.{AlikeAmps}
 use Rattle.mc_model.proofs.PhaseLemmas.{turn-modulo}
 
 pub agrees_same : (b x y : Bits) (n : ℕ) → ((v : ℕ) → v < n → x v ≡ y v) →
@@ -35,8 +35,13 @@ module _ {E : Type 0} (ops : PhaseOps E) (laws : PhaseLaws ops) where
   after_last o [] c f = refl
   after_last o (d ∷ cs) c f = after_last o cs c (act ops o d f)
 
+  -- one power of `w` takes the second to the first, at every setting
+  pub record AlikeAmps (f g : Amps E) : Type 0 where
+    pub phase : ℕ
+    pub same : (x : Bits) → f x ≡ turn ops phase (g x)
+
   -- one of the phases from 0 to `2 * half - 1` serves
-  pub least_turns : (f g : Amps E) (h : AlikeAmps ops f g) →
+  pub least_turns : (f g : Amps E) (h : AlikeAmps f g) →
       (k : ℕ) × (k < 2 * ops.half) × ((x : Bits) → f x ≡ turn ops k (g x))
   least_turns f g h =
       let p = laws.half_positive in (

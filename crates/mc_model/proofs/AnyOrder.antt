@@ -1,5 +1,6 @@
 -- What commutes may be done in any order: operators, and commands on different qubits.
-use Rattle.std.proofs.Common.{◌≡◌, ℕ, zero, suc, ◌+◌, ◌<◌, ◌≤◌, Bool, true, false, cond, ◌&&◌, not, map, List, [], ◌∷◌, ◌++◌, refl, sym, ◌∙◌, ap, arith}
+use Rattle.std.proofs.Common.{◌≡◌, ℕ, zero, suc, ◌+◌, ◌<◌, ◌≤◌, Bool, true, false, cond, ◌&&◌, not}
+use Rattle.std.proofs.Common.{map, List, [], ◌∷◌, ◌++◌, refl, sym, ◌∙◌, ap, arith}
 use Rattle.std.specs.Prelude.{nat_eq, count_by, length, All}
 use Rattle.std.proofs.lemmas.Bool.{eq-eqb, ne_eqb, cases_eq}
 use Rattle.std.proofs.lemmas.List.Elements.{All-head, All-tail}
@@ -14,7 +15,8 @@ use Rattle.mc_model.specs.Alike.{Disjoint}
 use Rattle.mc_model.proofs.BitLemmas.{and_true}
 use Rattle.mc_model.proofs.OddSums.{and_false}
 use Rattle.mc_model.proofs.ExchangeLaws.{exchanged}
-use Rattle.mc_model.proofs.NumberLists.{numbers_where-last, numbers_where-same, numbers_where-none, count-first}
+use Rattle.mc_model.proofs.NumberLists.{numbers_where-last, numbers_where-same, numbers_where-none}
+use Rattle.mc_model.proofs.NumberLists.{count-first}
 
 -- the numbers of a set but one
 without : ℕ → Bits → Bits

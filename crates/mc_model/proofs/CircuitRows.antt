@@ -9,10 +9,14 @@ use Rattle.mc_model.specs.Signals.{Signal, value, signal_of, no_signal, toggled,
 use Rattle.mc_model.specs.Phase.{turn, negated}
 use Rattle.mc_model.specs.Ring.{ring}
 use Rattle.mc_model.specs.Pattern.{Command, Prep, Ent, Meas, FixX, FixZ, J, CZ, Circuit, Pattern}
-use Rattle.mc_model.specs.Amplitude.{start, act, after, amp, branch_map, placed, act_gate, after_gates, circuit_table, j_count}
+use Rattle.mc_model.specs.Amplitude.{start, act, after, amp, branch_map, placed, act_gate}
+use Rattle.mc_model.specs.Amplitude.{after_gates, circuit_table, j_count}
 use Rattle.mc_model.specs.Valid.{prepared, measured}
 use Rattle.mc_model.specs.Translation.{translation, translated, last_qubits, preparations}
-use Rattle.mc_model.specs.StandardForm.{sum_over_places, x_part, x_sum, first_part, second_part, first_sum, second_sum, preparations_of, is_edge, measurements_with, corrections_below, standard_commands, standard_form}
+use Rattle.mc_model.specs.StandardForm.{sum_over_places, x_part, x_sum, first_part, second_part}
+use Rattle.mc_model.specs.StandardForm.{first_sum, second_sum, preparations_of, is_edge}
+use Rattle.mc_model.specs.StandardForm.{measurements_with, corrections_below, standard_commands}
+use Rattle.mc_model.specs.StandardForm.{standard_form}
 use Rattle.mc_model.specs.Shift.{ChangeRow, new_outcomes, change_of, IsShiftedSignal, IsShiftedForm}
 
 -- `in a`, a gate `J` of one step on `a`, `out a`
@@ -93,7 +97,10 @@ pub twice_entangled : standard_form (translation 4 (record {
       outputs = 0 ∷ 1 ∷ [];
       commands = [];
     }
-unfolding translation translated last_qubits preparations j_count sum_over_places x_part x_sum first_part second_part first_sum second_sum preparations_of is_edge pairs_at pairs_below measurements_with corrections_below standard_commands standard_form prepared measured toggled toggled_all
+unfolding translation translated last_qubits preparations j_count sum_over_places x_part x_sum
+    first_part second_part first_sum second_sum preparations_of is_edge pairs_at pairs_below
+    measurements_with corrections_below standard_commands standard_form prepared measured
+    toggled toggled_all
 twice_entangled = refl
 
 -- `in a`, `J` of one step and of two on `a`, `out a`
@@ -112,7 +119,10 @@ pub two_gates_standard : standard_form (translation 4 (record {
           ∷ Meas 0 7 no_signal no_signal ∷ Meas 1 6 (signal_of 0) no_signal
           ∷ FixX 2 (signal_of 1) ∷ FixZ 2 (signal_of 0) ∷ [];
     }
-unfolding digits negated translation translated last_qubits preparations j_count sum_over_places x_part x_sum first_part second_part first_sum second_sum preparations_of is_edge pairs_at pairs_below measurements_with corrections_below standard_commands standard_form prepared measured toggled toggled_all
+unfolding digits negated translation translated last_qubits preparations j_count sum_over_places
+    x_part x_sum first_part second_part first_sum second_sum preparations_of is_edge pairs_at
+    pairs_below measurements_with corrections_below standard_commands standard_form prepared
+    measured toggled toggled_all
 two_gates_standard = refl
 
 -- a measurement, then `Z` before `X` on one output: the standard form has `X` first
@@ -124,11 +134,15 @@ pub corrections_exchanged :
     standard_commands 2
     (Meas 0 0 no_signal no_signal ∷ FixZ 1 (signal_of 0) ∷ FixX 1 (signal_of 0) ∷ [])
     ≡ ordered_corrections
-unfolding sum_over_places x_part x_sum first_part second_part first_sum second_sum preparations_of is_edge pairs_at pairs_below measurements_with corrections_below standard_commands prepared measured toggled toggled_all
+unfolding sum_over_places x_part x_sum first_part second_part first_sum second_sum preparations_of
+    is_edge pairs_at pairs_below measurements_with corrections_below standard_commands
+    prepared measured toggled toggled_all
 corrections_exchanged = refl
 
 pub ordered_corrections_stay : standard_commands 2 ordered_corrections ≡ ordered_corrections
-unfolding sum_over_places x_part x_sum first_part second_part first_sum second_sum preparations_of is_edge pairs_at pairs_below measurements_with corrections_below standard_commands prepared measured toggled toggled_all
+unfolding sum_over_places x_part x_sum first_part second_part first_sum second_sum preparations_of
+    is_edge pairs_at pairs_below measurements_with corrections_below standard_commands
+    prepared measured toggled toggled_all
 ordered_corrections_stay = refl
 
 -- `in a`, `J` of one step, of two and of three on `a`, `out a`
@@ -154,7 +168,10 @@ pub three_gates_standard : standard_form (translation 4 (record {
   gates = J 0 1 ∷ J 0 2 ∷ J 0 3 ∷ [];
 }))
     ≡ three_gates_standard_form
-unfolding digits negated translation translated last_qubits preparations j_count sum_over_places x_part x_sum first_part second_part first_sum second_sum preparations_of is_edge pairs_at pairs_below measurements_with corrections_below standard_commands standard_form prepared measured toggled toggled_all
+unfolding digits negated translation translated last_qubits preparations j_count sum_over_places
+    x_part x_sum first_part second_part first_sum second_sum preparations_of is_edge pairs_at
+    pairs_below measurements_with corrections_below standard_commands standard_form prepared
+    measured toggled toggled_all
 three_gates_standard = refl
 
 -- its change is that of the third outcome by the first, and its shifted form corrects by the first

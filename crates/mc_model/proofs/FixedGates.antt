@@ -1,5 +1,7 @@
 -- The gates of fixed corrections do what the corrections do, doubled for each.
-use Rattle.std.proofs.Common.{◌≡◌, ℕ, zero, suc, ◌+◌, Bool, true, false, cond, not, ◌&&◌, ◌||◌, map, length, List, [], ◌∷◌, ◌++◌, refl, sym, ◌∙◌, ap, ap₂, subst, arith, length-append, append_assoc}
+use Rattle.std.proofs.Common.{◌≡◌, ℕ, zero, suc, ◌+◌, Bool, true, false, cond, not, ◌&&◌, ◌||◌, map}
+use Rattle.std.proofs.Common.{length, List, [], ◌∷◌, ◌++◌, refl, sym, ◌∙◌, ap, ap₂, subst, arith}
+use Rattle.std.proofs.Common.{length-append, append_assoc}
 use Rattle.std.specs.Prelude.{◌⊎◌, nat_eq, filter, flat_map, Option, unwrap_or}
 use Rattle.std.proofs.lemmas.Bool.{eq-eqb, ne_eqb, cases_eq, cases_lt, cases_Bool, true≢false}
 use Rattle.std.proofs.lemmas.Option.{slice_get_past}
@@ -10,12 +12,17 @@ use Rattle.mc_model.specs.Phase.{PhaseOps, PhaseLaws, turn, sign, doubled}
 use Rattle.mc_model.specs.Bits.{◌⊻◌, Bits, replaced, parity, all_zero}
 use Rattle.mc_model.specs.Signals.{value, one_signal}
 use Rattle.mc_model.specs.Pattern.{Command, FixX, FixZ, Gate, J}
-use Rattle.mc_model.specs.Amplitude.{Amps, start, act, after, amp, branch_map, zero_branch, act_gate, after_gates, circuit_table, placed}
-use Rattle.mc_model.specs.Graph.{OpenGraph, size, Fixed, not_fixed, fixed_at, is_output, IsOpenGraph, graph_state, bare_measurement, where_fixed, corrections_at, fixed_corrections, zero_pattern}
+use Rattle.mc_model.specs.Amplitude.{Amps, start, act, after, amp, branch_map, zero_branch}
+use Rattle.mc_model.specs.Amplitude.{act_gate, after_gates, circuit_table, placed}
+use Rattle.mc_model.specs.Graph.{OpenGraph, size, Fixed, not_fixed, fixed_at, is_output}
+use Rattle.mc_model.specs.Graph.{IsOpenGraph, graph_state, bare_measurement, where_fixed}
+use Rattle.mc_model.specs.Graph.{corrections_at, fixed_corrections, zero_pattern}
 use Rattle.mc_model.specs.Flow.{depth_of}
-use Rattle.mc_model.specs.Made.{measuring_order, wire_of, is_first, cz_gate, extracted_gates, fixed_gates, extracted_circuit}
+use Rattle.mc_model.specs.Made.{measuring_order, wire_of, is_first, cz_gate, extracted_gates}
+use Rattle.mc_model.specs.Made.{fixed_gates, extracted_circuit}
 use Rattle.mc_model.proofs.PhaseLemmas.{neg_neg, neg-sum, sign-sum}
-use Rattle.mc_model.proofs.BitLemmas.{and_true, replaced_same, replaced_other, replaced_again, replaced_itself}
+use Rattle.mc_model.proofs.BitLemmas.{and_true, replaced_same, replaced_other, replaced_again}
+use Rattle.mc_model.proofs.BitLemmas.{replaced_itself}
 use Rattle.mc_model.proofs.AmplitudeLemmas.{after-append, gates-append}
 
 -- ---- members of lists

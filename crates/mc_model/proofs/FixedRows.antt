@@ -3,17 +3,23 @@ use Rattle.std.proofs.Common.{◌≡◌, ℕ, suc, ◌-◌, Bool, true, false, L
 use Rattle.std.specs.Prelude.{ℤ, Some, None}
 use Rattle.mc_model.specs.Names.{Name}
 use Rattle.mc_model.specs.Numbers.{is_member, pairs_at, pairs_below}
-use Rattle.mc_model.specs.Bits.{Bits, parity, all_zero}
+use Rattle.mc_model.specs.Bits.{Bits, parity, odd, all_zero}
 use Rattle.mc_model.specs.Signals.{signal_of, no_signal, one_signal, value, toggled, toggled_all}
 use Rattle.mc_model.specs.Phase.{negated, turn}
 use Rattle.mc_model.specs.Ring.{ring}
 use Rattle.mc_model.specs.Pattern.{Prep, Ent, Meas, FixX, FixZ, Pattern, J, Circuit}
-use Rattle.mc_model.specs.Amplitude.{start, act, after, amp, branch_map, placed, act_gate, after_gates, circuit_table}
+use Rattle.mc_model.specs.Amplitude.{start, act, after, amp, branch_map, placed, act_gate}
+use Rattle.mc_model.specs.Amplitude.{after_gates, circuit_table}
 use Rattle.mc_model.specs.Translation.{preparations}
 use Rattle.mc_model.specs.Valid.{measured, prepared}
-use Rattle.mc_model.specs.StandardForm.{is_edge, first_sum, second_sum, sum_over_places, first_part, second_part, x_sum, x_part, preparations_of, measurements_with, corrections_below, standard_commands, standard_form}
-use Rattle.mc_model.specs.Graph.{edge, OpenGraph, joins, not_fixed, graph_of, angle_in, fixed_corrections, zero_pattern}
-use Rattle.mc_model.specs.Made.{measuring_order, corrected_measurement, flow_pattern, chain_start, extracted_gates, fixed_gates, extracted_circuit}
+use Rattle.mc_model.specs.StandardForm.{is_edge, first_sum, second_sum, sum_over_places, first_part}
+use Rattle.mc_model.specs.StandardForm.{second_part, x_sum, x_part, preparations_of}
+use Rattle.mc_model.specs.StandardForm.{measurements_with, corrections_below, standard_commands}
+use Rattle.mc_model.specs.StandardForm.{standard_form}
+use Rattle.mc_model.specs.Graph.{edge, OpenGraph, joins, not_fixed, graph_of, angle_in}
+use Rattle.mc_model.specs.Graph.{fixed_corrections, zero_pattern}
+use Rattle.mc_model.specs.Made.{measuring_order, corrected_measurement, flow_pattern, chain_start}
+use Rattle.mc_model.specs.Made.{extracted_gates, fixed_gates, extracted_circuit}
 
 abbrev two_names : List Name
 two_names = codes "a" ∷ codes "b" ∷ []
@@ -73,7 +79,8 @@ pub made_with_constant : flow_pattern turned corrector layers ≡ record {
       Prep 1 ∷ Ent 0 1 ∷ Meas 0 7 no_signal no_signal ∷ FixX 1 (signal_of 0)
       ∷ FixZ 1 one_signal ∷ [];
 }
-unfolding parity joins flow_pattern measuring_order corrected_measurement preparations fixed_corrections
+unfolding odd joins flow_pattern measuring_order corrected_measurement preparations
+    fixed_corrections
 made_with_constant = refl
 
 -- the fixed `Z` is two gates
@@ -104,7 +111,8 @@ turned_entries = four_entries (λ y b.
     (turn (ring 4) 1 (branch_map (ring 4) with_constant all_zero y b)).coefficients)
 
 turned_zero_branch : zero_entries ≡ turned_entries
-unfolding zero_entries turned_entries turn zero_pattern fixed_corrections preparations branch_map placed
+unfolding zero_entries turned_entries turn zero_pattern fixed_corrections preparations branch_map
+    placed
     amp after act start value parity negated
 turned_zero_branch = refl
 
@@ -117,6 +125,7 @@ doubled_entries = four_entries (λ y b.
     ((ring 4).add entry entry).coefficients)
 
 doubled_table : circuit_entries ≡ doubled_entries
-unfolding circuit_entries doubled_entries turn zero_pattern fixed_corrections preparations branch_map
+unfolding circuit_entries doubled_entries turn zero_pattern fixed_corrections preparations
+    branch_map
     placed amp after act start value parity negated circuit_table after_gates act_gate
 doubled_table = refl

@@ -3,7 +3,7 @@ use Rattle.std.proofs.Common.{◌≡◌, ℕ, zero, suc, Bool, true, false, List
 use Rattle.std.specs.Prelude.{ℤ, pos, negsuc, map, replicate, Some, None}
 use Rattle.mc_model.specs.Names.{Name}
 use Rattle.mc_model.specs.Numbers.{is_member, numbers_from, pairs_at, pairs_below}
-use Rattle.mc_model.specs.Bits.{Bits, parity, all_zero}
+use Rattle.mc_model.specs.Bits.{Bits, odd, all_zero}
 use Rattle.mc_model.specs.Signals.{signal_of, no_signal}
 use Rattle.mc_model.specs.Phase.{negated}
 use Rattle.mc_model.specs.Ring.{ring}
@@ -11,10 +11,13 @@ use Rattle.mc_model.specs.Pattern.{Prep, Ent, Meas, FixX, FixZ, J, CZ}
 use Rattle.mc_model.specs.Amplitude.{start, act, after, amp, branch_map, placed}
 use Rattle.mc_model.specs.Translation.{preparations}
 use Rattle.mc_model.specs.Valid.{measured}
-use Rattle.mc_model.specs.StandardForm.{is_edge, first_sum, second_sum, sum_over_places, first_part, second_part, x_sum, x_part}
-use Rattle.mc_model.specs.Graph.{edge, OpenGraph, joins, odd_neighbourhood, not_fixed, graph_of, angle_in, fixed_corrections, zero_pattern}
+use Rattle.mc_model.specs.StandardForm.{is_edge, first_sum, second_sum, sum_over_places, first_part}
+use Rattle.mc_model.specs.StandardForm.{second_part, x_sum, x_part}
+use Rattle.mc_model.specs.Graph.{edge, OpenGraph, joins, odd_neighbourhood, not_fixed, graph_of}
+use Rattle.mc_model.specs.Graph.{angle_in, fixed_corrections, zero_pattern}
 use Rattle.mc_model.specs.Flow.{depth_of}
-use Rattle.mc_model.specs.Made.{measuring_order, corrected_measurement, flow_pattern, chain_start, extracted_gates, fixed_gates, extracted_circuit}
+use Rattle.mc_model.specs.Made.{measuring_order, corrected_measurement, flow_pattern, chain_start}
+use Rattle.mc_model.specs.Made.{extracted_gates, fixed_gates, extracted_circuit}
 
 -- which of the vertices below `n` are in a set
 abbrev pub table : ℕ → Bits → List Bool
@@ -47,17 +50,17 @@ chain_layer (suc (suc (suc n))) = 0
 -- the odd neighbourhoods of the three sets
 pub chain_odd_a : table 4 (odd_neighbourhood chain (chain_sets 0))
     ≡ true ∷ false ∷ false ∷ false ∷ []
-unfolding parity joins
+unfolding odd joins
 chain_odd_a = refl
 
 pub chain_odd_b : table 4 (odd_neighbourhood chain (chain_sets 1))
     ≡ false ∷ true ∷ false ∷ true ∷ []
-unfolding parity joins
+unfolding odd joins
 chain_odd_b = refl
 
 pub chain_odd_c : table 4 (odd_neighbourhood chain (chain_sets 2))
     ≡ false ∷ false ∷ true ∷ false ∷ []
-unfolding parity joins
+unfolding odd joins
 chain_odd_c = refl
 
 pub chain_depth : depth_of chain chain_layer ≡ 3
@@ -73,7 +76,8 @@ pub chain_made : flow_pattern chain chain_sets chain_layer ≡ record {
       ∷ Meas 1 0 no_signal no_signal ∷ FixX 2 (signal_of 1) ∷ FixZ 3 (signal_of 1)
       ∷ Meas 2 0 no_signal no_signal ∷ FixX 3 (signal_of 2) ∷ [];
 }
-unfolding parity joins flow_pattern measuring_order corrected_measurement preparations fixed_corrections
+unfolding odd joins flow_pattern measuring_order corrected_measurement preparations
+    fixed_corrections
 chain_made = refl
 
 -- each vertex is followed by its neighbour: one wire, with three gates
@@ -106,17 +110,17 @@ with_flow = record {
 -- the sets `b1 b3`, `b1 b2 b3` and `b1 b2`: each is odd at its own input alone
 pub odd_of_first : table 6 (odd_neighbourhood with_flow (is_member (3 ∷ 5 ∷ [])))
     ≡ true ∷ false ∷ false ∷ false ∷ false ∷ false ∷ []
-unfolding parity joins
+unfolding odd joins
 odd_of_first = refl
 
 pub odd_of_second : table 6 (odd_neighbourhood with_flow (is_member (3 ∷ 4 ∷ 5 ∷ [])))
     ≡ false ∷ true ∷ false ∷ false ∷ false ∷ false ∷ []
-unfolding parity joins
+unfolding odd joins
 odd_of_second = refl
 
 pub odd_of_third : table 6 (odd_neighbourhood with_flow (is_member (3 ∷ 4 ∷ [])))
     ≡ false ∷ false ∷ true ∷ false ∷ false ∷ false ∷ []
-unfolding parity joins
+unfolding odd joins
 odd_of_third = refl
 
 -- ---- other edges between the same vertices: no flow
@@ -134,7 +138,7 @@ without_flow = record {
 -- every vertex outside `a1 a2 a3` has an even number of neighbours in it
 pub even_set : table 6 (odd_neighbourhood without_flow (is_member (0 ∷ 1 ∷ 2 ∷ [])))
     ≡ false ∷ false ∷ false ∷ false ∷ false ∷ false ∷ []
-unfolding parity joins
+unfolding odd joins
 even_set = refl
 
 -- ---- two outputs and an edge, nothing to measure
@@ -185,7 +189,8 @@ number n = n ∷ pos 0 ∷ pos 0 ∷ pos 0 ∷ []
 
 two_outputs_map : zero_entries
     ≡ number (pos 1) ∷ number (pos 1) ∷ number (pos 1) ∷ number (negsuc 0) ∷ number (pos 0) ∷ []
-unfolding zero_entries zero_pattern fixed_corrections preparations branch_map placed amp after act start
+unfolding zero_entries zero_pattern fixed_corrections preparations branch_map placed amp after act
+    start
 two_outputs_map = refl
 
 -- ---- the graph of a pattern with two gates in a row
@@ -206,6 +211,7 @@ pub graph_of_two_gates : graph_of 4 (record {
       angles = Some 7 ∷ Some 6 ∷ None ∷ [];
       fixed = replicate 3 not_fixed;
     }
-unfolding graph_of pairs_below pairs_at is_edge angle_in measured first_sum second_sum sum_over_places
+unfolding graph_of pairs_below pairs_at is_edge angle_in measured first_sum second_sum
+    sum_over_places
     first_part second_part x_sum x_part
 graph_of_two_gates = refl

@@ -1,3 +1,4 @@
+pub mod StepLemmas
 pub mod WholeNumbers
 pub mod RingLemmas
 pub mod RootTwo
@@ -20,6 +21,7 @@ pub mod AnyOrder
 pub mod Scales
 pub mod FixedGates
 pub mod DepthBounds
+pub mod ChosenFlows
 pub mod ValidInPlace
 pub mod SignalValues
 pub mod CorrectionsAct

@@ -1,10 +1,12 @@
 -- A graph with a refuter has no flow, and one with a stuck set no causal flow.
-use Rattle.std.specs.Prelude.{◌≡◌, ◌≢◌, ℕ, zero, suc, ◌<◌, Bool, true, false, ◌&&◌, refl, nat_eq, List, [], ◌∷◌, ◌||◌, ◌⊎◌}
+use Rattle.std.specs.Prelude.{◌≡◌, ◌≢◌, ℕ, zero, suc, ◌<◌, Bool, true, false, ◌&&◌, refl, nat_eq}
+use Rattle.std.specs.Prelude.{List, [], ◌∷◌, ◌||◌, ◌⊎◌}
 use Rattle.std.proofs.Common.{arith, sym, ap, ap₂, subst, ◌∙◌, inl, inr}
 use Rattle.std.proofs.lemmas.Bool.{eq-eqb, eqb-true, true≢false}
 use Rattle.mc_model.specs.Bits.{◌⊻◌, Bits, odd}
 use Rattle.mc_model.specs.Graph.{Edge, OpenGraph, size, joins, odd_neighbourhood}
-use Rattle.mc_model.specs.Flow.{IsFlow, CorrectsAt, IsCausalFlow, single, IsRefuter, RefutesAt, IsStuckSet}
+use Rattle.mc_model.specs.Flow.{IsFlow, CorrectsAt, IsCausalFlow, single, IsRefuter, RefutesAt}
+use Rattle.mc_model.specs.Flow.{IsStuckSet}
 use Rattle.mc_model.proofs.OddSums.{odd-same, odd-none, odd-and, odd-exchange, odd-one, and_swap}
 
 pub same_pair_swap : (a b c d : Bool) → (a && b) || (c && d) ≡ (d && c) || (b && a)

@@ -1,13 +1,16 @@
 -- The amplitude ring is a commutative ring with an element `w` for which `w ^ half = -1`, at every
 -- `half` above 0.
-use Rattle.std.specs.Prelude.{◌≡◌, ℕ, zero, suc, ◌+◌, ◌<◌, ℤ, pos, ◌+ℤ◌, refl, List, [], ◌∷◌, ◌++◌, length}
+use Rattle.std.specs.Prelude.{◌≡◌, ℕ, zero, suc, ◌+◌, ◌<◌, ℤ, pos, ◌+ℤ◌, refl, List, [], ◌∷◌, ◌++◌}
+use Rattle.std.specs.Prelude.{length}
 use Rattle.std.proofs.Common.{arith, sym, ap, ◌∙◌, append_assoc, append-nil}
 use Rattle.std.proofs.lemmas.Int.{ints}
 use lib.IntN.{◌*ℤ◌, neg_ℤ}
 use native.Mathlib.Nat.{ℕ_set}
 use mathlib.Core.HLevel.{is_prop→PathP}
 use Rattle.mc_model.specs.Phase.{PhaseLaws, turn}
-use Rattle.mc_model.specs.Ring.{Element, ring, IsCommutativeRing, plus, minus, scaled, zeros, behind, final, rotated, rotations, times, unit, length-zeros, length-plus, length-scaled, length-behind, length-times}
+use Rattle.mc_model.specs.Ring.{Element, ring, IsCommutativeRing, plus, minus, scaled, zeros}
+use Rattle.mc_model.specs.Ring.{behind, final, rotated, rotations, times, unit, length-zeros}
+use Rattle.mc_model.specs.Ring.{length-plus, length-scaled, length-behind, length-times}
 use Rattle.mc_model.proofs.WholeNumbers.{mul_add, mul_assoc, mul_comm, mul_zero, mul_one, mul_neg}
 
 -- ---- sums

@@ -1,10 +1,14 @@
 -- The root of two, which is `w ^ q - w ^ (3·q)` where half a turn is `4·q` steps.
-use Rattle.std.specs.Prelude.{◌≡◌, ℕ, zero, suc, ◌+◌, ◌*◌, ◌<◌, ℤ, ◌+ℤ◌, refl, List, [], ◌∷◌, length}
+use Rattle.std.specs.Prelude.{◌≡◌, ℕ, zero, suc, ◌+◌, ◌*◌, ◌<◌, ℤ, ◌+ℤ◌, refl, List, [], ◌∷◌}
+use Rattle.std.specs.Prelude.{length}
 use Rattle.std.proofs.Common.{arith, sym, ap, ap₂, ◌∙◌}
 use Rattle.std.proofs.lemmas.Int.{ints}
 use lib.IntN.{neg_ℤ}
-use Rattle.mc_model.specs.Ring.{Element, ring, product, root_two, plus, minus, times, unit, rotated, rotations, length-plus, length-minus, length-unit, length-times}
-use Rattle.mc_model.proofs.RingLemmas.{same_element, turn_coefficients, rotated_plus, rotations_add, rotations_half, length-rotations, times_plus, times_rotations, times_one}
+use Rattle.mc_model.specs.Ring.{Element, ring, product, root_two, plus, minus, times, unit, rotated}
+use Rattle.mc_model.specs.Ring.{rotations, length-plus, length-minus, length-unit, length-times}
+use Rattle.mc_model.proofs.RingLemmas.{same_element, turn_coefficients, rotated_plus, rotations_add}
+use Rattle.mc_model.proofs.RingLemmas.{rotations_half, length-rotations, times_plus}
+use Rattle.mc_model.proofs.RingLemmas.{times_rotations, times_one}
 
 -- the root of 2 times an element
 abbrev pub rooted : ℕ → List ℤ → List ℤ

@@ -1,12 +1,15 @@
 -- The preparations and measurements of lists, and of the pattern of a graph.
-use Rattle.std.proofs.Common.{◌≡◌, ℕ, suc, ◌+◌, ◌-◌, Bool, true, false, cond, not, map, length, List, [], ◌∷◌, ◌++◌, refl, ◌∙◌, ap, ap₂, arith}
+use Rattle.std.proofs.Common.{◌≡◌, ℕ, suc, ◌+◌, ◌-◌, Bool, true, false, cond, not, map, length}
+use Rattle.std.proofs.Common.{List, [], ◌∷◌, ◌++◌, refl, ◌∙◌, ap, ap₂, arith}
 use Rattle.std.specs.Prelude.{flat_map}
 use Rattle.mc_model.specs.Numbers.{numbers_from, numbers_where}
 use Rattle.mc_model.specs.Signals.{one_signal}
 use Rattle.mc_model.specs.Pattern.{Command, Prep, Ent, Meas, FixX, FixZ}
 use Rattle.mc_model.specs.Amplitude.{halvings, pattern_scale}
 use Rattle.mc_model.specs.Translation.{preparations}
-use Rattle.mc_model.specs.Graph.{Edge, OpenGraph, size, is_output, fixed_at, entanglings, graph_state, bare_measurement, corrections_at, fixed_corrections, zero_pattern}
+use Rattle.mc_model.specs.Graph.{Edge, OpenGraph, size, is_output, fixed_at, entanglings}
+use Rattle.mc_model.specs.Graph.{graph_state, bare_measurement, corrections_at, fixed_corrections}
+use Rattle.mc_model.specs.Graph.{zero_pattern}
 use Rattle.mc_model.proofs.PreparationLemmas.{halvings-preparations}
 
 pub halvings-append : (cs ds : List Command) → halvings (cs ++ ds) ≡ halvings cs + halvings ds

@@ -1,11 +1,14 @@
 -- Values of signals: of a toggled set, of a sum, at outcomes 0; a rising list of numbers is
 -- determined by its values.
-use Rattle.std.proofs.Common.{◌≡◌, ℕ, ◌<◌, Bool, true, false, cond, List, [], ◌∷◌, refl, sym, ◌∙◌, ap, ap₂, arith}
+use Rattle.std.proofs.Common.{◌≡◌, ℕ, ◌<◌, Bool, true, false, cond, List, [], ◌∷◌, refl, sym, ◌∙◌}
+use Rattle.std.proofs.Common.{ap, ap₂, arith}
 use Rattle.std.specs.Prelude.{nat_eq, nat_lt}
-use Rattle.std.proofs.lemmas.Bool.{eq-eqb, ne_eqb, cases_Bool, cases_order, eqb-false, eqb-true, ltb-true, ltb-false, false≢true}
+use Rattle.std.proofs.lemmas.Bool.{eq-eqb, ne_eqb, cases_Bool, cases_order, eqb-false, eqb-true}
+use Rattle.std.proofs.lemmas.Bool.{ltb-true, ltb-false, false≢true}
 use mathlib.Core.Logic.{inl, inr}
 use Rattle.mc_model.specs.Bits.{◌⊻◌, Bits, parity, all_zero}
-use Rattle.mc_model.specs.Signals.{toggled, toggled_all, AllAbove, IsRising, Signal, Signals, value, signal_sum}
+use Rattle.mc_model.specs.Signals.{toggled, toggled_all, AllAbove, IsRising, Signal, Signals, value}
+use Rattle.mc_model.specs.Signals.{signal_sum}
 use Rattle.mc_model.proofs.BitLemmas.{xor_false, xor_twice, xor_left, xor_assoc, xor_middle}
 
 parity-toggled : (q : ℕ) (ps : List ℕ) (o : Bits) → parity (toggled q ps) o ≡ o q ⊻ parity ps o
@@ -21,7 +24,7 @@ parity-toggled q (p ∷ ps) o = elim (cases_Bool (nat_lt q p)) [
   ])
 ]
 
-parity-toggled_all : (qs ps : List ℕ) (o : Bits) →
+pub parity-toggled_all : (qs ps : List ℕ) (o : Bits) →
     parity (toggled_all qs ps) o ≡ parity qs o ⊻ parity ps o
 unfolding parity toggled_all
 parity-toggled_all [] ps o = refl

@@ -1,5 +1,6 @@
 -- From places to recursions along the list, and back for a builder that appends.
-use Rattle.std.proofs.Common.{◌≡◌, ℕ, ◌+◌, Bool, true, false, ◌||◌, List, [], ◌∷◌, ◌++◌, refl, sym, ◌∙◌, ap, ap₂, append_assoc, arith}
+use Rattle.std.proofs.Common.{◌≡◌, ℕ, ◌+◌, Bool, true, false, ◌||◌, List, [], ◌∷◌, ◌++◌, refl, sym}
+use Rattle.std.proofs.Common.{◌∙◌, ap, ap₂, append_assoc, arith}
 use Rattle.std.specs.Prelude.{nat_eq, nat_lt}
 use mathlib.Core.Path.{fun_ext, subst, subst₂}
 use mathlib.Core.Logic.{inl, inr}

@@ -5,11 +5,6 @@ use Rattle.mc_model.specs.Bits.{Bits}
 use Rattle.mc_model.specs.Pattern.{Pattern, Command, Prep, Ent, Meas, FixX, FixZ}
 use Rattle.mc_model.specs.Amplitude.{Amps, after, branch_map}
 
--- one power of `w` takes the second to the first, at every setting
-pub record AlikeAmps {E : Type 0} (ops : PhaseOps E) (f g : Amps E) : Type 0 where
-  pub phase : ℕ
-  pub same : (x : Bits) → f x ≡ turn ops phase (g x)
-
 -- at outcomes `o` the commands `cs` do what `ds` do, up to one power of `w`, whatever stands before
 -- them
 pub record AlikeCommands {E : Type 0} (ops : PhaseOps E) (o : Bits) (cs ds : List Command) : Type 0
@@ -41,8 +36,3 @@ Disjoint (Ent q r) d = Misses q d × Misses r d
 Disjoint (Meas q a s t) d = Misses q d
 Disjoint (FixX q s) d = Misses q d
 Disjoint (FixZ q s) d = Misses q d
-
--- two operators on amplitudes agree up to one power of `w`, the same for all amplitudes
-pub record AlikeMaps {E : Type 0} (ops : PhaseOps E) (F G : Amps E → Amps E) : Type 0 where
-  pub phase : ℕ
-  pub same : (f : Amps E) (x : Bits) → F f x ≡ turn ops phase (G f x)

@@ -1,9 +1,11 @@
 -- What circuits and patterns mean: an amplitude for each setting, up to a power of the root of two.
-use Rattle.std.specs.Prelude.{ℕ, zero, suc, ◌+◌, ◌-◌, Bool, true, false, cond, not, ◌&&◌, List, [], ◌∷◌}
+use Rattle.std.specs.Prelude.{◌≡◌, ℕ, zero, suc, ◌+◌, ◌-◌, Bool, true, false, cond, not, ◌&&◌, List}
+use Rattle.std.specs.Prelude.{[], ◌∷◌}
 use Rattle.mc_model.specs.Phase.{PhaseOps, turn, sign, negated, measured_angle}
 use Rattle.mc_model.specs.Bits.{◌⊻◌, Bits, all_zero, replaced}
 use Rattle.mc_model.specs.Signals.{value}
-use Rattle.mc_model.specs.Pattern.{Command, Prep, Ent, Meas, FixX, FixZ, Pattern, Gate, J, CZ, Circuit, wires}
+use Rattle.mc_model.specs.Pattern.{Command, Prep, Ent, Meas, FixX, FixZ, Pattern, Gate, J, CZ}
+use Rattle.mc_model.specs.Pattern.{Circuit, wires}
 
 -- an amplitude for each setting
 abbrev pub Amps : Type 0 → Type 0
@@ -65,6 +67,11 @@ after_gates ops (g ∷ gs) f = after_gates ops gs (act_gate ops g f)
 -- the entry of a circuit's table, at output bits `y` and input bits `b`
 unfoldable pub circuit_table : {E : Type 0} → PhaseOps E → Circuit → List Bool → Bits → E
 circuit_table ops c y b = after_gates ops c.gates (start ops c.inputs b) (placed c.outputs y)
+
+-- at every outcome list the branch map of the pattern is the circuit's table
+abbrev pub HasTableAtEachBranch : {E : Type 0} → PhaseOps E → Circuit → Pattern → Type 0
+HasTableAtEachBranch ops c p = (o : Bits) (y : List Bool) (b : Bits) →
+    branch_map ops p o y b ≡ circuit_table ops c y b
 
 -- ---- scales: a physical amplitude is an entry over the root of two to this power
 

@@ -1,5 +1,6 @@
 -- One bit for each number: settings of qubits, outcomes of measurements, sets of vertices.
-use Rattle.std.specs.Prelude.{ℕ, zero, suc, Bool, true, false, cond, not, nat_eq, ◌&&◌, ◌||◌, List, [], ◌∷◌}
+use Rattle.std.specs.Prelude.{ℕ, zero, suc, Bool, true, false, cond, not, nat_eq, ◌&&◌, ◌||◌, List}
+use Rattle.std.specs.Prelude.{[], ◌∷◌, slice_get, unwrap_or}
 
 infixl 60 ◌⊻◌
 -- the sum of two bits
@@ -9,6 +10,10 @@ true ⊻ b = not b
 
 abbrev pub Bits : Type 0
 Bits = ℕ → Bool
+
+-- the bit at each number of a list, and 0 behind its end
+abbrev pub bits_of : List Bool → Bits
+bits_of bits = λ q. unwrap_or (slice_get bits q) false
 
 -- every bit is 0
 abbrev pub all_zero : Bits
@@ -23,13 +28,10 @@ unfoldable pub parity : List ℕ → Bits → Bool
 parity [] o = false
 parity (q ∷ qs) o = o q ⊻ parity qs o
 
-abbrev pub numbers_below : ℕ → List ℕ
-numbers_below zero = []
-numbers_below (suc n) = n ∷ numbers_below n
-
 -- whether an odd number of the numbers below `n` have the bit 1
-abbrev pub odd : ℕ → Bits → Bool
-odd n f = parity (numbers_below n) f
+unfoldable pub odd : ℕ → Bits → Bool
+odd zero f = false
+odd (suc n) f = f n ⊻ odd n f
 
 -- whether two pairs are one, in whatever order
 abbrev pub same_pair : ℕ → ℕ → ℕ → ℕ → Bool

@@ -49,6 +49,10 @@ pub record IsChosenFlow (g : OpenGraph) (sets : ℕ → Bits) (layer : ℕ → �
   pub least_sets : (u : ℕ) → u < size g → is_output g u ≡ false →
       IsLeastSet (IsLaterCandidate layer) (size g) (CorrectsAlone g layer u) (sets u)
 
+-- vertices are ordered by number
+abbrev pub IsLaterNumber : ℕ → ℕ → Type 0
+IsLaterNumber d k = d < k
+
 -- `B` is the greatest set that a refuter has, and each row is the least that refutes, by the
 -- greatest number that differs
 pub record IsChosenRefuter (g : OpenGraph) (B : Bits) (y : ℕ → Bits) : Type 0 where
@@ -56,7 +60,7 @@ pub record IsChosenRefuter (g : OpenGraph) (B : Bits) (y : ℕ → Bits) : Type 
   pub greatest : (B' : Bits) (y' : ℕ → Bits) → IsRefuter g B' y' →
       (v : ℕ) → v < size g → B' v ≡ true → B v ≡ true
   pub least : (u : ℕ) → u < size g → B u ≡ true →
-      IsLeastSet (λ d k. d < k) (size g) (λ s. RefutesAt g B s u) (y u)
+      IsLeastSet IsLaterNumber (size g) (λ s. RefutesAt g B s u) (y u)
 
 -- the least layer of a vertex in any causal flow
 pub record IsLeastCausalLayer (g : OpenGraph) (v k : ℕ) : Type 0 where

@@ -1,5 +1,7 @@
 -- Open graphs, and the graph of a pattern.
-use Rattle.std.specs.Prelude.{◌≡◌, ◌⊎◌, ℕ, ◌<◌, ◌≤◌, ◌-◌, ◌*◌, ◌%◌, Bool, false, cond, not, ◌&&◌, nat_eq, nat_lt, List, [], ◌∷◌, ◌++◌, length, map, flat_map, All, slice_get, unwrap_or, option_map, Option, Some, None, is_none, ⊤}
+use Rattle.std.specs.Prelude.{◌≡◌, ◌⊎◌, ℕ, ◌<◌, ◌≤◌, ◌-◌, ◌*◌, ◌%◌, Bool, false, cond, not, ◌&&◌}
+use Rattle.std.specs.Prelude.{nat_eq, nat_lt, List, [], ◌∷◌, ◌++◌, length, map, flat_map, All}
+use Rattle.std.specs.Prelude.{slice_get, unwrap_or, option_map, Option, Some, None, is_none, ⊤}
 use Rattle.mc_model.specs.Names.{Name, AreNames}
 use Rattle.mc_model.specs.Numbers.{numbers_from, numbers_where, is_member, ListsOnce, pairs_below}
 use Rattle.mc_model.specs.Bits.{◌⊻◌, Bits, odd, same_pair}

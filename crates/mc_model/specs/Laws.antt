@@ -6,6 +6,7 @@ use Rattle.mc_model.specs.Pattern.{Command}
 use Rattle.mc_model.specs.Amplitude.{Amps, act, after}
 use Rattle.mc_model.specs.Graph.{OpenGraph, size, is_output, odd_neighbourhood}
 use Rattle.mc_model.specs.Depth.{IsDepthBound}
+use Rattle.mc_model.specs.Choice.{IsChosenFlow}
 use Rattle.mc_model.specs.Flow.{IsFlow, IsCausalFlow, depth_of, IsRefuter, IsStuckSet}
 
 -- elements of `half` coefficients are a commutative ring in which `w ^ half = -1`
@@ -46,3 +47,8 @@ abbrev pub DepthBoundsHold : Type 0
 DepthBoundsHold = (g : OpenGraph) (d : ℕ) (stated : ℕ → ℕ) (y : ℕ → ℕ → Bits) →
     IsDepthBound g d stated y → (sets : ℕ → Bits) (layer : ℕ → ℕ) → IsFlow g sets layer →
     ((v : ℕ) → v < size g → is_output g v ≡ false → stated v ≤ layer v) × (d ≤ depth_of g layer)
+
+-- the chosen flow is a flow
+abbrev pub ChosenFlowsAreFlows : Type 0
+ChosenFlowsAreFlows = (g : OpenGraph) (sets : ℕ → Bits) (layer : ℕ → ℕ) →
+    IsChosenFlow g sets layer → IsFlow g sets layer

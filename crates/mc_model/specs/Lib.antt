@@ -1,3 +1,4 @@
+pub mod Limits
 pub mod Numbers
 pub mod Names
 pub mod Bits
@@ -5,6 +6,7 @@ pub mod Signals
 pub mod Steps
 pub mod Phase
 pub mod Ring
+pub mod Roots
 pub mod Pattern
 pub mod Amplitude
 pub mod Valid

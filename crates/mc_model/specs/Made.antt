@@ -1,11 +1,15 @@
 -- The pattern that is made from a flow, and the circuit that is extracted by a causal flow.
-use Rattle.std.specs.Prelude.{ℕ, zero, suc, cond, not, ◌&&◌, ◌||◌, nat_eq, nat_lt, List, [], ◌∷◌, ◌++◌, map, filter, flat_map, position, find, unwrap_or, is_none, slice_get, Option}
+use Rattle.std.specs.Prelude.{ℕ, zero, suc, cond, not, ◌&&◌, ◌||◌, nat_eq, nat_lt, List, [], ◌∷◌}
+use Rattle.std.specs.Prelude.{◌++◌, map, filter, flat_map, position, find, unwrap_or, is_none}
+use Rattle.std.specs.Prelude.{slice_get, Option}
 use Rattle.mc_model.specs.Numbers.{numbers_from, numbers_where, is_member}
 use Rattle.mc_model.specs.Bits.{Bits}
 use Rattle.mc_model.specs.Phase.{negated}
 use Rattle.mc_model.specs.Signals.{signal_of}
 use Rattle.mc_model.specs.Pattern.{Command, FixX, FixZ, Pattern, Gate, J, CZ, Circuit}
-use Rattle.mc_model.specs.Graph.{OpenGraph, size, is_output, base_angle, odd_neighbourhood, joins, graph_state, bare_measurement, fixed_at, where_fixed, fixed_corrections}
+use Rattle.mc_model.specs.Graph.{OpenGraph, size, is_output, base_angle, odd_neighbourhood, joins}
+use Rattle.mc_model.specs.Graph.{graph_state, bare_measurement, fixed_at, where_fixed}
+use Rattle.mc_model.specs.Graph.{fixed_corrections}
 use Rattle.mc_model.specs.Flow.{depth_of}
 
 -- the vertices that are no outputs, from the layer `k` down, and within a layer by rising number

@@ -1,9 +1,12 @@
 -- Names of qubits, wires and vertices, which are numbered in the order of a list.
-use Rattle.std.specs.Prelude.{◌≡◌, ℕ, zero, suc, ◌+◌, ◌≤◌, ◌<◌, List, [], ◌++◌, ◌∷◌, Bool, true, false, not, nat_eq, nat_le, ◌&&◌, ◌||◌, ◌==◌, IsTrue, length, map, find, position, codes, unwrap_or, All, Option}
+use Rattle.std.specs.Prelude.{◌≡◌, ℕ, zero, suc, ◌+◌, ◌≤◌, ◌<◌, List, [], ◌++◌, ◌∷◌, Bool, true}
+use Rattle.std.specs.Prelude.{false, not, nat_eq, nat_le, ◌&&◌, ◌||◌, ◌==◌, IsTrue, length, map}
+use Rattle.std.specs.Prelude.{find, position, codes, unwrap_or, All, Option}
 use Rattle.std.specs.List.{IsDistinct, list_any, list_all}
 use Rattle.std.specs.Cmp.Lexicographic.{pointwise}
 use Rattle.std.specs.Fmt.{decimal}
 use Rattle.mc_model.specs.Numbers.{numbers_from}
+use Rattle.mc_model.specs.Limits.{most_qubits}
 
 -- a name, by its bytes
 abbrev pub Name : Type 0
@@ -32,7 +35,7 @@ is_held names name = list_any (name_eq name) names
 pub record AreNames (names : List Name) : Type 0 where
   pub distinct : IsDistinct name_eq names
   pub valid : All (λ name. IsTrue (is_name name)) names
-  pub few : length names ≤ 256
+  pub few : length names ≤ most_qubits
 
 -- `q` and a number
 abbrev pub numbered : ℕ → Name

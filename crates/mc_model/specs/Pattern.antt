@@ -1,5 +1,7 @@
 -- Circuits and measurement patterns, as lists of gates and of commands.
-use Rattle.std.specs.Prelude.{ℕ, Bool, false, ◌||◌, List, length}
+use Rattle.std.specs.Prelude.{◌≡◌, ℕ, Bool, false, ◌||◌, List, length, filter_map, Option, None}
+use Rattle.std.specs.Prelude.{Some}
+use Rattle.std.specs.List.{list_any}
 use Rattle.mc_model.specs.Names.{Name}
 use Rattle.mc_model.specs.Signals.{Signal}
 
@@ -19,6 +21,22 @@ has_constant (Ent q r) = false
 has_constant (Meas q a s t) = s.constant || t.constant
 has_constant (FixX q s) = s.constant
 has_constant (FixZ q s) = s.constant
+
+-- no signal of the commands has the constant
+abbrev pub HasNoConstants : List Command → Type 0
+HasNoConstants cs = list_any has_constant cs ≡ false
+
+-- the qubit that a command measures
+abbrev pub measured_by : Command → Option ℕ
+measured_by (Prep q) = None
+measured_by (Ent q r) = None
+measured_by (Meas q a s t) = Some q
+measured_by (FixX q s) = None
+measured_by (FixZ q s) = None
+
+-- the measured qubits, in measuring order
+abbrev pub measured_order : List Command → List ℕ
+measured_order cs = filter_map measured_by cs
 
 -- the inputs are the first of the qubits; the commands stand in order of execution
 pub record Pattern : Type 0 where

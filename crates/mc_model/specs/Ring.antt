@@ -1,6 +1,7 @@
 -- The amplitude ring: numbers with `w ^ half = -1`, as the lists of the coefficients of `1, w, ..,
 -- w ^ (half - 1)`.
-use Rattle.std.specs.Prelude.{◌≡◌, ℕ, zero, suc, ◌*◌, ℤ, pos, ◌+ℤ◌, neg_ℤ, List, [], ◌∷◌, length, refl}
+use Rattle.std.specs.Prelude.{◌≡◌, ℕ, zero, suc, ◌*◌, ℤ, pos, ◌+ℤ◌, neg_ℤ, List, [], ◌∷◌, length}
+use Rattle.std.specs.Prelude.{refl}
 use lib.IntN.{◌*ℤ◌}
 use mathlib.Core.Path.{ap, ◌∙◌, sym}
 use Rattle.mc_model.specs.Phase.{PhaseOps, PhaseLaws, turn}

@@ -1,14 +1,31 @@
 -- Signal shifting: a pattern without second signals, which does at changed outcomes what the
 -- pattern did.
-use Rattle.std.specs.Prelude.{◌≡◌, ℕ, cond, nat_eq, List, [], ◌∷◌, ◌++◌, ⊤, false}
+use Rattle.std.specs.Prelude.{◌≡◌, ℕ, cond, nat_eq, List, [], ◌∷◌, ◌++◌, map, take, slice_get, Some}
+use Rattle.std.specs.Prelude.{⊤, false, true}
+use Rattle.mc_model.specs.Numbers.{is_member}
 use Rattle.mc_model.specs.Bits.{◌⊻◌, Bits}
 use Rattle.mc_model.specs.Signals.{Signal, value, no_signal, IsRising}
-use Rattle.mc_model.specs.Pattern.{Command, Prep, Ent, Meas, FixX, FixZ, Pattern}
+use Rattle.mc_model.specs.Pattern.{Command, Prep, Ent, Meas, FixX, FixZ, Pattern, measured_order}
+use Rattle.mc_model.specs.StandardForm.{standard_form}
 
 -- a qubit whose outcome is changed by the value of a signal
 pub record ChangeRow : Type 0 where
   pub qubit : ℕ
   pub signal : Signal
+
+abbrev pub qubits_of : List ChangeRow → List ℕ
+qubits_of rows = map (λ (row : ChangeRow). row.qubit) rows
+
+-- each member of a row's signal is one of the qubits before that of the row
+abbrev pub AreEarlier : List ℕ → List ChangeRow → Type 0
+AreEarlier order rows = (i : ℕ) (row : ChangeRow) → slice_get rows i ≡ Some row →
+    (q : ℕ) → is_member row.signal.members q ≡ true → is_member (take i order) q ≡ true
+
+-- a row for each measured qubit, in measuring order, and each member of its signal was measured
+-- before the qubit
+pub record IsChangeOf (p : Pattern) (rows : List ChangeRow) : Type 0 where
+  pub qubits : qubits_of rows ≡ measured_order p.commands
+  pub earlier : AreEarlier (measured_order p.commands) rows
 
 -- the new outcomes: at the qubit of each row the old outcome plus the value of the row's signal at
 -- the old outcomes
@@ -56,3 +73,8 @@ pub record IsShiftedForm (p q : Pattern) : Type 0 where
 abbrev pub HasNoSecondSignals : List Command → Type 0
 HasNoSecondSignals cs = (before : List Command) (q a : ℕ) (s t : Signal) (behind : List Command) →
     cs ≡ before ++ (Meas q a s t ∷ behind) → t ≡ no_signal
+
+-- a pattern in shifted form: it is its own standard form, and has no second signals
+pub record IsInShiftedForm (p : Pattern) : Type 0 where
+  pub standard : standard_form p ≡ p
+  pub shifted : HasNoSecondSignals p.commands

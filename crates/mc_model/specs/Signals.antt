@@ -1,5 +1,6 @@
 -- Signals: sets of measured qubits, which say whether a correction acts.
-use Rattle.std.specs.Prelude.{ℕ, ◌<◌, Bool, true, false, cond, not, ◌&&◌, nat_eq, nat_lt, List, [], ◌∷◌, ⊤}
+use Rattle.std.specs.Prelude.{ℕ, ◌<◌, Bool, true, false, cond, not, ◌&&◌, nat_eq, nat_lt, List, []}
+use Rattle.std.specs.Prelude.{◌∷◌, ⊤}
 use Rattle.mc_model.specs.Bits.{◌⊻◌, Bits, parity}
 
 -- the members, rising, and a constant

@@ -1,10 +1,11 @@
 -- The translation of a circuit into a pattern. What it means is the law of the crate
 -- `mc_translate`: every branch has the circuit's table.
-use Rattle.std.specs.Prelude.{ℕ, zero, suc, ◌-◌, cond, nat_eq, List, [], ◌∷◌, ◌++◌, map}
+use Rattle.std.specs.Prelude.{ℕ, zero, suc, ◌+◌, ◌-◌, cond, nat_eq, List, [], ◌∷◌, ◌++◌, map}
 use Rattle.mc_model.specs.Names.{with_fresh}
 use Rattle.mc_model.specs.Phase.{negated}
 use Rattle.mc_model.specs.Signals.{no_signal, signal_of}
-use Rattle.mc_model.specs.Pattern.{Command, Prep, Ent, Meas, FixX, Gate, J, CZ, Pattern, Circuit, wires}
+use Rattle.mc_model.specs.Pattern.{Command, Prep, Ent, Meas, FixX, Gate, J, CZ, Pattern, Circuit}
+use Rattle.mc_model.specs.Pattern.{wires}
 use Rattle.mc_model.specs.Amplitude.{j_count}
 
 -- for each wire the qubit that stands for it: `r` stands for the wire `v` from now on
@@ -38,3 +39,7 @@ translation half c = record {
   commands =
       preparations c.inputs (wires c - c.inputs) ++ translated half c.gates (λ v. v) (wires c);
 }
+
+-- how many qubits it has: the wires, and a fresh one for each `J`
+abbrev pub qubit_count : Circuit → ℕ
+qubit_count c = wires c + j_count c.gates

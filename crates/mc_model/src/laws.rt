@@ -1,6 +1,8 @@
 //! Laws of the definitions, each on the contract of a function that does nothing.
 
-ghost use Rattle.mc_model.specs.Laws.{ElementsAreARing, RootSquaresToTwo, AmplitudesByLastCommand, DepthBoundsHold, EdgesCountTwice, RefutersExcludeFlows, StuckSetsExcludeCausalFlows};
+ghost use Rattle.mc_model.specs.Laws.{ElementsAreARing, RootSquaresToTwo, AmplitudesByLastCommand};
+ghost use Rattle.mc_model.specs.Laws.{ChosenFlowsAreFlows, DepthBoundsHold, EdgesCountTwice};
+ghost use Rattle.mc_model.specs.Laws.{RefutersExcludeFlows, StuckSetsExcludeCausalFlows};
 
 /// The amplitude ring is a commutative ring with `w ^ half = -1`.
 pub fn elements_are_a_ring()
@@ -35,4 +37,9 @@ pub fn stuck_sets_exclude_causal_flows()
 /// A bound of depth excludes every flow of lesser depth.
 pub fn depth_bounds_hold()
     ensures { DepthBoundsHold }
+{}
+
+/// The chosen flow is a flow.
+pub fn chosen_flows_are_flows()
+    ensures { ChosenFlowsAreFlows }
 {}

@@ -1,12 +1,17 @@
--- Fresh names are names.
-use Rattle.std.proofs.Common.{◌≡◌, ℕ, zero, suc, ◌+◌, ◌/◌, ◌%◌, ◌<◌, ◌≤◌, List, [], ◌∷◌, ◌++◌, Bool, true, false, ◌||◌, ◌&&◌, length, refl, sym, ◌∙◌, ap, arith, inl, inr, IsTrue, length-append}
+-- The name that is computed is fresh, and fresh names are names.
+use Rattle.std.proofs.Common.{◌≡◌, ℕ, zero, suc, ◌+◌, ◌/◌, ◌%◌, ◌<◌, ◌≤◌, List, [], ◌∷◌, ◌++◌, Bool}
+use Rattle.std.proofs.Common.{true, false, ◌||◌, ◌&&◌, length, refl, sym, ◌∙◌, ap, arith, inl, inr}
+use Rattle.std.proofs.Common.{IsTrue, length-append}
 use Rattle.std.specs.Prelude.{nat_le, ◌==◌}
 use Rattle.std.specs.Cmp.Lexicographic.{nat_list_eq_equiv}
 use Rattle.std.proofs.lemmas.Bool.{le-leb, cases_Bool, cases_lt}
 use Rattle.std.proofs.lemmas.Map.Keys.{IsDistinct-push}
 use Rattle.std.proofs.lemmas.List.Elements.{All-append, All-cons, All-nil}
-use Rattle.mc_model.specs.Names.{Name, is_name_byte, is_name, is_held, numbered, fresh_name, with_fresh, AreNames}
-use Rattle.mc_names.proofs.Numbered.{decimal_one, decimal_two, decimal_three, held_few, held_more, fresh_name-least}
+use Rattle.mc_model.specs.Names.{Name, is_name_byte, is_name, is_held, numbered, fresh_name}
+use Rattle.mc_model.specs.Names.{IsFresh}
+use Rattle.mc_model.specs.Names.{with_fresh, AreNames}
+use Rattle.mc_names.proofs.Numbered.{decimal_one, decimal_two, decimal_three, held_few, held_more}
+use Rattle.mc_names.proofs.Numbered.{fresh_name-least}
 
 -- the number of the fresh name
 record FreshNumber (names : List Name) : Type 0 where
@@ -14,6 +19,7 @@ record FreshNumber (names : List Name) : Type 0 where
   positive : 0 < number
   most : number ≤ length names + 1
   free : is_held names (numbered number) ≡ false
+  below : (j : ℕ) → 0 < j → j < number → is_held names (numbered j) ≡ true
   same : numbered number ≡ fresh_name names
 
 find_free : (names : List Name) (m j : ℕ) → length names < 1000 → m + j ≡ length names + 2 → 0 < j →
@@ -30,6 +36,7 @@ find_free names (suc m) j few e p held = elim (cases_Bool (is_held names (number
     positive = p;
     most = omega arith;
     free = free;
+    below = held;
     same = fresh_name-least names j p (omega arith) held free;
   }
 ]
@@ -38,6 +45,17 @@ fresh_number : (names : List Name) → length names < 1000 → FreshNumber names
 fresh_number names few =
     find_free names (length names + 1) 1 few (omega arith) (omega arith)
     (λ i p l. absurd (omega arith))
+
+-- the name that is computed is fresh
+pub fresh_is_fresh : (names : List Name) → length names < 1000 → IsFresh names (fresh_name names)
+fresh_is_fresh names few =
+    let fresh = fresh_number names few in (
+      fresh.number,
+      fresh.positive,
+      sym fresh.same,
+      ap (is_held names) (sym fresh.same) ∙ fresh.free,
+      fresh.below,
+    )
 
 digit_is_byte : (b : ℕ) → 48 ≤ b → b ≤ 57 → is_name_byte b ≡ true
 digit_is_byte b low high =

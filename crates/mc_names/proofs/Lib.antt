@@ -1,2 +1,3 @@
+pub mod StoredNames
 pub mod Numbered
 pub mod FreshNames

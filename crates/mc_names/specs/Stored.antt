@@ -1,10 +1,9 @@
 -- How a name lies in sixteen bytes.
 use Rattle.std.specs.Prelude.{◌≡◌, ℕ, ◌-◌, ◌≤◌, List, ◌++◌, length, take, drop, replicate, refl}
-use Rattle.std.proofs.Common.{arith, ◌∙◌, IsTrue, ℕ, true}
-use Rattle.std.proofs.lemmas.List.{take-append-drop, length-take-le, length-replicate, length-drop, length-append, drop-replicate}
-use Rattle.std.proofs.Math.Seq.{take-append_seam, drop-append_seam}
+use Rattle.std.proofs.Common.{arith, IsTrue, ℕ, true}
+use Rattle.std.proofs.lemmas.List.{take-append-drop, length-take-le}
 use Rattle.std.proofs.lemmas.Slice.Eq.{slice_eq-Decides}
-use Rattle.std.proofs.lemmas.Bool.Decides.{Decides-eqb, nat_tests}
+use Rattle.std.proofs.lemmas.Bool.Decides.{Decides-eqb}
 use Rattle.mc_model.specs.Names.{is_name, name_eq}
 
 -- the bytes hold a name of this length, and zeros behind it
@@ -24,27 +23,3 @@ same_bytes bytes len h = rw (same_len bytes len h) (rw (← h.zeros) (take-appen
 -- names are the same exactly where their bytes are
 pub name_eq-true : (a b : List ℕ) → name_eq a b ≡ true → a ≡ b
 name_eq-true a b e = (slice_eq-Decides Decides-eqb a b (name_eq a b) refl).0 e
-
-pub short_name : (word : List ℕ) → IsTrue (is_name word) → length word ≤ 16
-short_name word h = grind (arith, nat_tests)
-
--- a name before zeros
-pub stored_name : (word bytes : List ℕ) → IsTrue (is_name word) → length word ≤ 16
-    → bytes ≡ word ++ drop (length word) (replicate 16 0) → IsStored bytes (length word)
-stored_name word bytes h le e =
-    let zeros : List ℕ = replicate 16 0 in
-    let size : length zeros ≡ 16 = length-replicate {A = ℕ} 16 0 in
-    let rest : length (drop (length word) zeros) ≡ length zeros - length word =
-    length-drop (length word) zeros in
-    let front : take (length word) bytes ≡ word =
-    rw e (take-append_seam word (drop (length word) (replicate 16 0))) in
-    let back : drop (length word) bytes ≡ replicate (16 - length word) 0 =
-    rw e
-    (drop-append_seam word (drop (length word) (replicate 16 0))
-    ∙ drop-replicate (length word) 16 0) in
-    record {
-      whole = rw e (length-append word (drop (length word) (replicate 16 0)) ∙ omega arith);
-      within = le;
-      name = rw front h;
-      zeros = back;
-    }

@@ -4,10 +4,12 @@
 //! A name is seen as its bytes, and a list of names as the list of these.
 #![tactic(auto)]
 
+mod laws;
 mod name;
 mod names;
 #[cfg(test)]
 mod tests;
 
+pub use laws::fresh_names_are_fresh;
 pub use name::Name;
 pub use names::{Names, NamesEnd};

@@ -1,8 +1,10 @@
 //! Lists of distinct names.
 
-ghost use Rattle.std.specs.Prelude.{◌||◌, ◌≡◌, ◌↔◌, ℕ, ◌<◌, [], ◌∷◌, ◌++◌, length, IfOk, OnErr, OnOk, Err, Some, None, slice_get, is_some};
+ghost use Rattle.std.specs.Prelude.{◌||◌, ◌≡◌, ◌↔◌, ℕ, ◌<◌, [], ◌∷◌, ◌++◌, length, IfOk, OnErr};
+ghost use Rattle.std.specs.Prelude.{OnOk, Err, Some, None, slice_get, is_some};
 ghost use Rattle.std.specs.List.{list_all};
-ghost use Rattle.mc_model.specs.Names.{AreNames, place_of, is_held, fresh_name, IsFresh};
+ghost use Rattle.mc_model.specs.Limits.{most_qubits};
+ghost use Rattle.mc_model.specs.Names.{AreNames, place_of, is_held, fresh_name};
 
 use crate::name::Name;
 use indexmap::IndexSet;
@@ -83,7 +85,8 @@ impl Names {
     }
 
     /// Adds a name, which goes last, and gives its number. A refusal leaves the names as they were;
-    /// a name that is held is refused as `Twice` also where the list is full, and `Memory` comes last.
+    /// a name that is held is refused as `Twice` also where the list is full, and `Memory` comes
+    /// last.
     pub fn add(&mut self, name: Name) -> Result<u16, NamesEnd>
         ensures number { IfOk result (λ number. number ≡ length self.old) }
         ensures added { OnOk result (self.new ≡ self.old ++ name ∷ []) }
@@ -92,11 +95,11 @@ impl Names {
         ensures twice { (q : ℕ) →
             (result ≡ Err (NamesEnd.Twice q)) ↔ (place_of self.old name ≡ Some q) }
         ensures full { (result ≡ Err NamesEnd.Full) ↔
-            ((place_of self.old name ≡ None) × (length self.old ≡ 256)) }
+            ((place_of self.old name ≡ None) × (length self.old ≡ most_qubits)) }
         // the cause of no refusal stands where the name is added, nor where memory ran out
-        ensures room { OnOk result ((place_of self.old name ≡ None) × (length self.old < 256)) }
+        ensures room { OnOk result ((place_of self.old name ≡ None) × (length self.old < most_qubits)) }
         ensures memory_last { result ≡ Err NamesEnd.Memory →
-            (place_of self.old name ≡ None) × (length self.old < 256) }
+            (place_of self.old name ≡ None) × (length self.old < most_qubits) }
     {
         if let Some(number) = self.find(&name) {
             return Err(NamesEnd::Twice(number));
@@ -142,8 +145,7 @@ impl Names {
 
     /// `q` and the least positive number, in decimal, for which the name is not held.
     pub fn fresh(&self) -> Name
-        ensures fresh { IsFresh self.now result }
-        ensures computed { result ≡ fresh_name self.now }
+        ensures { result ≡ fresh_name self.now }
     {
         let _count = self.len();
         let mut number = 1;

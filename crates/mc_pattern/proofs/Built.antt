@@ -1,17 +1,17 @@
 -- What a builder keeps at each step, and the pattern that it gives.
-use Rattle.std.proofs.Common.{◌≡◌, ℕ, suc, ◌+◌, ◌<◌, Bool, true, false, not, List, [], ◌∷◌, ◌++◌, refl, sym, ◌∙◌, ap, arith, length, length-append, set, replicate, None, get_or-set_same, get_or-set_other}
+use Rattle.std.proofs.Common.{◌≡◌, ℕ, suc, ◌+◌, ◌<◌, Bool, true, false, not, List, [], ◌∷◌, ◌++◌, refl, sym, ◌∙◌, ap, arith, length, length-append, set, replicate, None, get_or-set_same, get_or-set_other, IsTrue}
 use Rattle.std.proofs.lemmas.Bool.{eq-eqb, ne_eqb, cases_eq, cases_lt}
 use Rattle.std.proofs.lemmas.List.{get_or-replicate, get_or_past, length-replicate}
 use Rattle.std.proofs.lemmas.Option.{unwrap_or-slice_get}
 use mathlib.Core.Path.{fun_ext}
 use mathlib.Core.Logic.{inl, inr}
-use Rattle.mc_model.specs.Bits.{Bits, replaced}
+use Rattle.mc_model.specs.Steps.{is_permitted}
+use Rattle.mc_model.specs.Bits.{Bits, replaced, bits_of}
 use Rattle.mc_model.specs.Names.{Name, AreNames}
-use Rattle.mc_model.specs.Pattern.{Command, Prep, Ent, Meas, FixX, FixZ, Pattern}
+use Rattle.mc_model.specs.Pattern.{Command, Prep, Ent, Meas, FixX, FixZ, Pattern, measured_by}
 use Rattle.mc_model.specs.Valid.{prepared, measured}
 use Rattle.mc_model.proofs.ValidLemmas.{valid_with, prepared-append, next_measured, none_measured}
-use Rattle.mc_signal.specs.Outcomes.{bits_of}
-use Rattle.mc_pattern.specs.Rules.{is_prep, measured_by, marked, command_rule, output_rule}
+use Rattle.mc_pattern.specs.Rules.{is_prep, marked, command_rule, output_rule}
 use Rattle.mc_pattern.specs.Typed.{IsTyped, AllTyped}
 use Rattle.mc_pattern.specs.Patterns.{IsPattern, IsBuilt, begun, measured_count, with_outputs}
 use Rattle.mc_pattern.proofs.RuleLaws.{fits_by, lists_by}
@@ -40,11 +40,12 @@ marks_set marks q within = fun_ext λ k.
     ]
 
 -- a builder of inputs alone
-pub built_start : (half : ℕ) (names : List Name) → AreNames names →
+pub built_start : (half : ℕ) (names : List Name) → IsTrue (is_permitted half) → AreNames names →
     IsBuilt half (begun names (length names) []) (replicate 256 false)
 unfolding prepared measured
-built_start half names valid = record {
+built_start half names permitted valid = record {
   begun = record {
+    permitted = permitted;
     names = valid;
     qubits = omega arith;
     commands = record { at = λ before c behind e. absurd (no_command before c behind e) };
@@ -95,6 +96,7 @@ built_prep half names inputs cs marks name h valid room =
     let more = one_prepared cs (length names) in
     record {
       begun = record {
+        permitted = h.begun.permitted;
         names = valid;
         qubits = omega arith;
         commands = valid_with inputs cs (Prep (length names)) h.begun.commands size;
@@ -118,6 +120,7 @@ built_push half names inputs cs marks marks' c h no_prep typed unbroken room lon
     let rule : command_rule (length names) (measured cs) c ≡ None = rw (← h.same) unbroken in
     record {
       begun = record {
+        permitted = h.begun.permitted;
         names = h.begun.names;
         qubits = omega arith;
         commands =
@@ -140,6 +143,7 @@ pub built_whole : (half : ℕ) (names : List Name) (inputs : ℕ) (cs : List Com
     output_rule (length names) (bits_of marks) outputs ≡ None →
     IsPattern half (with_outputs (begun names inputs cs) outputs)
 built_whole half names inputs cs marks outputs h unbroken = record {
+  permitted = h.begun.permitted;
   valid = record {
     names = h.begun.names;
     qubits = h.begun.qubits;

@@ -37,14 +37,6 @@ members_of (Meas q a s t) = s.members ++ t.members
 members_of (FixX q s) = s.members
 members_of (FixZ q s) = s.members
 
--- the qubit that it measures
-abbrev pub measured_by : Command → Option ℕ
-measured_by (Prep q) = None
-measured_by (Ent q r) = None
-measured_by (Meas q a s t) = Some q
-measured_by (FixX q s) = None
-measured_by (FixZ q s) = None
-
 -- the qubits of `done`, and one more if there is one
 abbrev pub marked : Bits → Option ℕ → Bits
 marked done None = done

@@ -1,12 +1,14 @@
 //! Building patterns.
 
-ghost use Rattle.std.specs.Prelude.{◌≡◌, ◌↔◌, ℕ, ◌<◌, ◌≤◌, [], ◌∷◌, ◌++◌, length, Err, Some, None, OnOk, IfOk, OnErr, IfErr, IsErrAnd, false, ◌⊎◌};
+ghost use Rattle.std.specs.Prelude.{◌≡◌, ◌↔◌, ℕ, ◌<◌, ◌≤◌, [], ◌∷◌, ◌++◌, length, Err, Some, None, OnOk, IfOk, OnErr, IfErr, IsErrAnd, false, ◌⊎◌, IsTrue};
 ghost use Rattle.std.specs.Option.{ForSome};
+ghost use Rattle.mc_model.specs.Steps.{is_permitted};
+ghost use Rattle.mc_model.specs.Limits.{most_qubits, most_commands};
+ghost use Rattle.mc_model.specs.Bits.{bits_of};
 ghost use Rattle.mc_model.specs.Names.{place_of};
-ghost use Rattle.mc_model.specs.Pattern.{Prep};
-ghost use Rattle.mc_signal.specs.Outcomes.{bits_of};
+ghost use Rattle.mc_model.specs.Pattern.{Prep, measured_by};
 ghost use Rattle.mc_pattern.specs.Commands.{plain_command};
-ghost use Rattle.mc_pattern.specs.Rules.{is_prep, broken_rule, broken_outputs, measured_by, marked};
+ghost use Rattle.mc_pattern.specs.Rules.{is_prep, broken_rule, broken_outputs, marked};
 ghost use Rattle.mc_pattern.specs.Patterns.{begun, with_outputs, IsFree};
 
 use crate::command::Command;
@@ -104,6 +106,7 @@ impl<const H: usize> Builder<H> {
 
     /// A pattern of the inputs alone.
     pub fn new(alloc: Global, inputs: Names) -> Result<Builder<H>, Memory>
+        requires { IsTrue (is_permitted H) }
         ensures { IfOk result (λ builder. builder ≡ begun inputs (length inputs) []) }
     {
         let count = inputs.len();
@@ -139,10 +142,10 @@ impl<const H: usize> Builder<H> {
         ensures twice { (q : ℕ) →
             (result ≡ Err (PushEnd.Twice q)) ↔ (place_of self.old.names name ≡ Some q) }
         ensures full { (result ≡ Err PushEnd.Full) ↔
-            ((place_of self.old.names name ≡ None) × (length self.old.names ≡ 256)) }
+            ((place_of self.old.names name ≡ None) × (length self.old.names ≡ most_qubits)) }
         ensures limit { (result ≡ Err PushEnd.Limit) ↔
-            ((place_of self.old.names name ≡ None) × (length self.old.names < 256)
-            × (length self.old.commands ≡ 262_144)) }
+            ((place_of self.old.names name ≡ None) × (length self.old.names < most_qubits)
+            × (length self.old.commands ≡ most_commands)) }
         ensures no_rule { (n : ℕ) → result ≡ Err (PushEnd.Rule n) → ⊥ }
         ensures memory_last { IfErr result (λ end. (end ≡ PushEnd.Memory) ↔ IsFree self.old name) }
         ensures err { OnErr result (self.new ≡ self.old) }
@@ -182,18 +185,18 @@ impl<const H: usize> Builder<H> {
         ensures added { OnOk result (self.new ≡
             record self.old { commands = self.old.commands ++ plain_command command.entry ∷ [] }) }
         ensures allowed { OnOk result ((broken_rule self.old (plain_command command.entry) ≡ None)
-            × (length self.old.commands < 262_144)) }
+            × (length self.old.commands < most_commands)) }
         ensures rule { (n : ℕ) →
             (result ≡ Err (PushEnd.Rule n)) ↔
             (broken_rule self.old (plain_command command.entry) ≡ Some n) }
         ensures limit { (result ≡ Err PushEnd.Limit) ↔
             ((broken_rule self.old (plain_command command.entry) ≡ None)
-            × (length self.old.commands ≡ 262_144)) }
+            × (length self.old.commands ≡ most_commands)) }
         ensures no_twice { (q : ℕ) → result ≡ Err (PushEnd.Twice q) → ⊥ }
         ensures no_full { result ≡ Err PushEnd.Full → ⊥ }
         ensures memory_last { IfErr result (λ end. (end ≡ PushEnd.Memory) ↔
             ((broken_rule self.old (plain_command command.entry) ≡ None)
-            × (length self.old.commands < 262_144))) }
+            × (length self.old.commands < most_commands))) }
         ensures err { OnErr result (self.new ≡ self.old) }
     {
         if let Some(rule) = rule_of(self.names.len(), self.marks.as_slice(), &command) {

@@ -1,6 +1,7 @@
 //! Building where nothing is refused but for want of memory.
 
 ghost use Rattle.std.specs.Prelude.{◌≡◌, ◌<◌, [], ◌∷◌, ◌++◌, length, not, false, OnOk, IfOk, OnErr};
+ghost use Rattle.mc_model.specs.Limits.{most_commands};
 ghost use Rattle.mc_model.specs.Numbers.{ListsOnce};
 ghost use Rattle.mc_model.specs.Pattern.{Prep};
 ghost use Rattle.mc_model.specs.Valid.{FitsBehind, measured};
@@ -47,7 +48,7 @@ impl<const H: usize> Builder<H> {
     pub fn push_fitting(&mut self, command: Command<H>) -> Result<(), Memory>
         requires no_prep { is_prep (plain_command command) ≡ false }
         requires fits { FitsBehind self.old.inputs self.old.commands (plain_command command) }
-        requires room { length self.old.commands < 262_144 }
+        requires room { length self.old.commands < most_commands }
         ensures added { OnOk result (self.new ≡
             record self.old { commands = self.old.commands ++ plain_command command.entry ∷ [] }) }
         ensures err { OnErr result (self.new ≡ self.old) }

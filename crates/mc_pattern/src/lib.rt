@@ -8,6 +8,7 @@ mod change;
 mod command;
 mod fitting;
 mod laws;
+mod order;
 mod outputs;
 mod pattern;
 mod rules;

@@ -2,8 +2,8 @@
 
 ghost use Rattle.std.specs.Prelude.{◌≡◌, ◌<◌, ◌≤◌, ◌&&◌, All, not, nat_lt, nat_eq, count_by};
 ghost use Rattle.std.specs.List.{list_any};
+ghost use Rattle.mc_model.specs.Bits.{bits_of};
 ghost use Rattle.mc_model.specs.Numbers.{numbers_from, is_member};
-ghost use Rattle.mc_signal.specs.Outcomes.{bits_of};
 ghost use Rattle.mc_pattern.specs.Rules.{output_rule, is_twice, is_missing};
 
 use crate::rules::{has_marked, has_stranger, is_marked};

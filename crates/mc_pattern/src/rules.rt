@@ -2,7 +2,7 @@
 
 ghost use Rattle.std.specs.Prelude.{◌≡◌, ◌∷◌, [], not, nat_lt, nat_eq, false, IfNone};
 ghost use Rattle.std.specs.List.{list_any};
-ghost use Rattle.mc_signal.specs.Outcomes.{bits_of};
+ghost use Rattle.mc_model.specs.Bits.{bits_of};
 ghost use Rattle.mc_pattern.specs.Commands.{plain_command};
 ghost use Rattle.mc_pattern.specs.Rules.{command_rule, first_rule, is_stranger, is_undone};
 ghost use Rattle.mc_pattern.specs.Typed.{IsSet, IsTyped};

@@ -7,7 +7,7 @@ use Rattle.std.proofs.lemmas.List.{length-map}
 use Rattle.mc_model.specs.Names.{place_of}
 use Rattle.mc_model.specs.Numbers.{is_member, numbers_where}
 use Rattle.mc_model.specs.Signals.{Signal, no_signal}
-use Rattle.mc_model.specs.Shift.{ChangeRow}
+use Rattle.mc_model.specs.Shift.{ChangeRow, qubits_of}
 use Rattle.mc_text.specs.declared.head.Head.{Head}
 use Rattle.mc_text.specs.declared.head.Head.TheVariants.{O}
 use Rattle.mc_text.specs.declared.point.Point.{Point}
@@ -20,7 +20,6 @@ use Rattle.mc_text.proofs.Going.{head_at}
 use Rattle.mc_text.proofs.Kept.{count_at, operand_at-word}
 use Rattle.mc_pattern_text.specs.declared.change_reader.ChangeReader.{ChangeReader}
 use Rattle.mc_pattern_text.specs.ChangeRoles.{may_follow, role_of, record_word, is_row}
-use Rattle.mc_pattern_text.specs.ChangeRows.{qubits_of}
 use Rattle.mc_pattern_text.specs.ChangeValue.{spelled_row, spelled_rows, row_by}
 use Rattle.mc_pattern_text.specs.Value.{signal_by}
 use Rattle.mc_pattern_text.specs.ChangeJudge.{judge_by, lacks_by, members_in, rules_by}

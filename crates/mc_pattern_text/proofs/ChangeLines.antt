@@ -6,7 +6,7 @@ use Rattle.std.proofs.lemmas.List.Elements.{filter_map-append}
 use Rattle.mc_model.specs.Names.{place_of}
 use Rattle.mc_model.specs.Numbers.{is_member}
 use Rattle.mc_model.specs.Signals.{Signal, no_signal}
-use Rattle.mc_model.specs.Shift.{ChangeRow}
+use Rattle.mc_model.specs.Shift.{ChangeRow, qubits_of, AreEarlier}
 use Rattle.mc_text.specs.declared.head.Head.{Head}
 use Rattle.mc_text.specs.declared.head.Head.TheVariants.{O}
 use Rattle.mc_text.specs.declared.point.Point.{Point}
@@ -18,7 +18,6 @@ use Rattle.mc_text.proofs.Going.{head_at}
 use Rattle.mc_text.proofs.Kept.{count_at}
 use Rattle.mc_pattern_text.specs.declared.change_reader.ChangeReader.{ChangeReader}
 use Rattle.mc_pattern_text.specs.ChangeRoles.{role_of, is_row}
-use Rattle.mc_pattern_text.specs.ChangeRows.{qubits_of, AreEarlier}
 use Rattle.mc_pattern_text.specs.ChangeValue.{spelled_row, spelled_rows, row_by, rows_of}
 use Rattle.mc_pattern_text.specs.ChangeJudge.{lacks_by, members_in, rules_by}
 use Rattle.mc_pattern_text.specs.ChangeKept.{IsSignalOf, IsEarlier, IsChangeKept, RowEnds, row_here}

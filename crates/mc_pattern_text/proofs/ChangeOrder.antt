@@ -9,11 +9,9 @@ use Rattle.std.proofs.lemmas.List.Elements.{All-from_recursion, filter_map-appen
 use Rattle.std.proofs.lemmas.Option.{slice_get-get_or}
 use mathlib.Core.Logic.{inl, inr}
 use Rattle.mc_model.specs.Numbers.{is_member}
-use Rattle.mc_model.specs.Pattern.{Command, Prep, Ent, Meas, FixX, FixZ, Pattern}
+use Rattle.mc_model.specs.Pattern.{Command, Prep, Ent, Meas, FixX, FixZ, Pattern, measured_by, measured_order}
 use Rattle.mc_model.specs.Valid.{IsValidPattern}
-use Rattle.mc_pattern.specs.Rules.{measured_by}
 use Rattle.mc_pattern_text.specs.ChangePlaces.{ArePlaces}
-use Rattle.mc_pattern_text.specs.ChangeRows.{measured_order}
 use Rattle.mc_pattern_text.specs.Written.{AreNamed}
 use Rattle.mc_pattern_text.proofs.NamedCommands.{pattern_named}
 use Rattle.mc_pattern_text.proofs.Parts.{taken_more}

@@ -5,12 +5,12 @@ use Rattle.std.proofs.lemmas.List.{append-nil, map-append}
 use Rattle.std.proofs.lemmas.Option.{slice_get_within, get_or_from_slice_get}
 use Rattle.mc_write.specs.Text.{line_text, text_of}
 use Rattle.mc_model.specs.Numbers.{is_member}
-use Rattle.mc_model.specs.Pattern.{Pattern}
-use Rattle.mc_model.specs.Shift.{ChangeRow}
+use Rattle.mc_model.specs.Pattern.{Pattern, measured_order}
+use Rattle.mc_model.specs.Shift.{ChangeRow, IsChangeOf}
 use Rattle.mc_model.specs.Valid.{IsValidPattern}
 use Rattle.mc_pattern.proofs.Members.{below_by}
 use Rattle.mc_pattern_text.specs.ChangeCanonical.{row_line, change_text}
-use Rattle.mc_pattern_text.specs.ChangeRows.{IsChangeOf, AreRowsNamed, measured_order}
+use Rattle.mc_pattern_text.specs.ChangeRows.{AreRowsNamed}
 use Rattle.mc_pattern_text.proofs.ChangeOrder.{measured_named}
 use Rattle.mc_pattern_text.proofs.Parts.{below_all, get_map, taken_more}
 

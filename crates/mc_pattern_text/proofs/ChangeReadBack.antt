@@ -9,9 +9,9 @@ use Rattle.mc_lex.specs.Lines.{end_of}
 use Rattle.mc_write.specs.Named.{name_at}
 use Rattle.mc_model.specs.Names.{Name, AreNames}
 use Rattle.mc_model.specs.Numbers.{is_member}
-use Rattle.mc_model.specs.Pattern.{Pattern}
+use Rattle.mc_model.specs.Pattern.{Pattern, measured_order}
 use Rattle.mc_model.specs.Signals.{IsRising}
-use Rattle.mc_model.specs.Shift.{ChangeRow}
+use Rattle.mc_model.specs.Shift.{ChangeRow, IsChangeOf, qubits_of}
 use Rattle.mc_model.specs.Valid.{IsValidPattern}
 use Rattle.mc_pattern.proofs.Members.{below_by}
 use Rattle.mc_pattern.specs.Typed.{IsSet}
@@ -25,7 +25,7 @@ use Rattle.mc_text.proofs.Naming.{number-name_at, held-name_at, is_name-name_at,
 use Rattle.mc_text.proofs.Written.{is_written_line}
 use Rattle.mc_pattern_text.specs.Canonical.{behind_header}
 use Rattle.mc_pattern_text.specs.ChangeRoles.{may_follow, role_of, member}
-use Rattle.mc_pattern_text.specs.ChangeRows.{IsChangeOf, IsRowNamed, AllPlain, measured_order, qubits_of}
+use Rattle.mc_pattern_text.specs.ChangeRows.{IsRowNamed, AllPlain}
 use Rattle.mc_pattern_text.specs.ChangeValue.{spelled_row, spelled_rows, row_by, rows_of}
 use Rattle.mc_pattern_text.specs.ChangeJudge.{rules_by, change_rules}
 use Rattle.mc_pattern_text.specs.ChangeCanonical.{row_line, change_lines, change_text}

@@ -6,7 +6,7 @@ use Rattle.std.proofs.lemmas.Bool.Decides.{nat_tests}
 use Rattle.std.proofs.lemmas.List.{map-append, append-nil, take-append-drop, length-take-le}
 use Rattle.mc_model.specs.Names.{Name, AreNames, name_eq, is_held}
 use Rattle.mc_model.specs.Numbers.{is_member}
-use Rattle.mc_model.specs.Pattern.{Command, Prep, Ent, Meas, FixX, FixZ}
+use Rattle.mc_model.specs.Pattern.{Command, Prep, Ent, Meas, FixX, FixZ, measured_order}
 use Rattle.mc_model.specs.Signals.{Signal, IsRising}
 use Rattle.mc_model.specs.Valid.{IsLive, SignalFits, AllDone, measured, prepared}
 use Rattle.mc_pattern.proofs.Members.{below_by}
@@ -22,7 +22,6 @@ use Rattle.mc_text.proofs.Naming.{held-name_at, is_name-name_at, numbers-name_at
 use Rattle.mc_pattern_text.specs.Roles.{may_follow, follows_command, is_command, is_defining, is_output}
 use Rattle.mc_pattern_text.specs.Value.{spelled_commands}
 use Rattle.mc_pattern_text.specs.Judge.{measured_in, still_name, member_name, next_record, pattern_rules}
-use Rattle.mc_pattern_text.specs.ChangeRows.{measured_order}
 use Rattle.mc_pattern_text.proofs.NamedSignals.{member-listed, member_free}
 use Rattle.mc_pattern_text.proofs.Parts.{all_front, among, below_all}
 

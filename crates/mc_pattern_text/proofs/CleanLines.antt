@@ -6,12 +6,12 @@ use Rattle.std.specs.Option.{option_or}
 use Rattle.std.proofs.lemmas.List.Sums.{fold-append}
 use mathlib.Core.Logic.{inl, inr}
 use Rattle.mc_angle.specs.Number.{is_number, is_digit}
-use Rattle.std.proofs.lemmas.Bool.{eqb-true}
 use Rattle.std.proofs.lemmas.Bool.Decides.{nat_tests}
 use Rattle.std.proofs.lemmas.List.{append-nil, length-take-le}
 use Rattle.mc_model.specs.Names.{Name, AreNames, is_name, is_name_byte}
 use Rattle.mc_model.specs.Pattern.{Command, Prep, Ent, Meas, FixX, FixZ}
 use Rattle.mc_model.specs.Steps.{is_permitted}
+use Rattle.mc_model.proofs.StepLemmas.{permitted_at_most}
 use Rattle.mc_model.specs.Valid.{FitsBehind, prepared}
 use Rattle.mc_model.proofs.ValidLemmas.{prepared-append}
 use Rattle.mc_angle.proofs.Numerals.{angle-decimal, number-decimal}
@@ -149,7 +149,7 @@ number_name w e =
 pub decimal_no_mark : (half a : ℕ) → IsTrue (is_permitted half) → a < 2 * half
     → mark_of (decimal a) ≡ None
 decimal_no_mark half a permitted lt =
-    let four : half ≡ 4 = eqb-true half 4 permitted in
+    let few : half ≤ 8 = permitted_at_most half permitted in
     name_no_mark (decimal a) (number_name (decimal a) (number-decimal a (omega arith)).0)
 
 -- the words under a mark, behind others

@@ -9,12 +9,11 @@ use Rattle.std.proofs.lemmas.List.Sums.{sum_by-append, sum_by-cons, list_all-fro
 use mathlib.Core.Logic.{inl, inr}
 use Rattle.mc_model.specs.Names.{Name, AreNames, name_eq, is_name}
 use Rattle.mc_model.specs.Numbers.{is_member}
-use Rattle.mc_model.specs.Pattern.{Command, Prep, Ent, Meas, FixX, FixZ, Pattern}
+use Rattle.mc_model.specs.Pattern.{Command, Prep, Ent, Meas, FixX, FixZ, Pattern, measured_by, measured_order}
 use Rattle.mc_model.specs.Steps.{is_permitted}
 use Rattle.mc_model.specs.Valid.{FitsBehind, IsValid, measured, prepared}
 use Rattle.mc_model.proofs.ValidLemmas.{prepared-append}
 use Rattle.mc_pattern.specs.Patterns.{IsPattern}
-use Rattle.mc_pattern.specs.Rules.{measured_by}
 use Rattle.mc_pattern.specs.Typed.{AllTyped}
 use Rattle.mc_pattern.proofs.Members.{below_by, counts_member, member_counts}
 use Rattle.mc_write.specs.Named.{name_at}
@@ -32,7 +31,6 @@ use Rattle.mc_pattern_text.specs.Roles.{may_follow, role_of, role_in, follows_co
 use Rattle.mc_pattern_text.specs.Value.{spelled_command, spelled_commands}
 use Rattle.mc_pattern_text.specs.Judge.{measured_in, is_settled, pattern_rules}
 use Rattle.mc_pattern_text.specs.Canonical.{command_line, pattern_lines}
-use Rattle.mc_pattern_text.specs.ChangeRows.{measured_order}
 use Rattle.mc_pattern_text.proofs.NamedCommands.{measured_there}
 use Rattle.mc_pattern_text.proofs.CleanCommands.{IsAfter, AreThere, front_distinct, front_more, known_clean, measured_held, held_written}
 use Rattle.mc_pattern_text.proofs.CleanLines.{command_clean}

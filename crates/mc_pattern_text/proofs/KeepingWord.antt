@@ -6,9 +6,9 @@ use Rattle.std.proofs.lemmas.Bool.Decides.{nat_tests}
 use Rattle.std.proofs.lemmas.List.{append-nil, length-map}
 use Rattle.std.proofs.lemmas.List.Folds.{list_all-append}
 use Rattle.std.proofs.lemmas.Map.Keys.{IsDistinct-push}
+use Rattle.mc_model.specs.Bits.{bits_of}
 use Rattle.mc_model.specs.Numbers.{is_member}
 use Rattle.mc_model.specs.Names.{name_eq, is_name, is_held, place_of}
-use Rattle.mc_signal.specs.Outcomes.{bits_of}
 use Rattle.mc_text.specs.declared.head.Head.{Head}
 use Rattle.mc_text.specs.declared.head.Head.TheVariants.{N, E, Out, End}
 use Rattle.mc_text.specs.declared.point.Point.{Point}

@@ -3,10 +3,10 @@ use Rattle.std.proofs.Common.{◌≡◌, ℕ, ◌<◌, List, [], ◌∷◌, ◌+
 use Rattle.std.specs.List.{list_any, flat_map}
 use Rattle.std.specs.Option.{option_map}
 use Rattle.std.proofs.lemmas.List.{append-nil, length-map}
-use Rattle.mc_model.specs.Bits.{Bits}
+use Rattle.mc_model.specs.Pattern.{measured_by}
+use Rattle.mc_model.specs.Bits.{Bits, bits_of}
 use Rattle.mc_model.specs.Signals.{IsRising}
 use Rattle.mc_model.specs.Pattern as plain
-use Rattle.mc_signal.specs.Outcomes.{bits_of}
 use Rattle.mc_text.specs.declared.head.Head.{Head}
 use Rattle.mc_text.specs.declared.head.Head.TheVariants.{N, E, M, X, Z}
 use Rattle.mc_text.specs.declared.point.Point.{Point}
@@ -16,7 +16,7 @@ use Rattle.mc_text.specs.Judged.{Words, Lines}
 use Rattle.mc_text.specs.Lists.{names_in, names_at}
 use Rattle.mc_text.proofs.Kept.{number_in-more}
 use Rattle.mc_pattern.specs.Commands.{plain_command}
-use Rattle.mc_pattern.specs.Rules.{is_prep, first_rule, command_rule, is_stranger, is_undone, marked, measured_by}
+use Rattle.mc_pattern.specs.Rules.{is_prep, first_rule, command_rule, is_stranger, is_undone, marked}
 use Rattle.mc_pattern.specs.Typed.{IsTyped}
 use Rattle.mc_pattern.specs.Patterns.{IsBuilt, begun}
 use Rattle.mc_pattern.proofs.Built.{built_push}

@@ -1,14 +1,15 @@
 -- The pattern so far is valid behind each line with nothing against it.
-use Rattle.std.proofs.Common.{◌≡◌, ℕ, ◌<◌, List, [], ◌∷◌, ◌++◌, Bool, true, false, Option, Some, None, length, map, refl, sym, ap, ◌∙◌, arith}
+use Rattle.std.proofs.Common.{◌≡◌, ℕ, ◌<◌, List, [], ◌∷◌, ◌++◌, Bool, true, false, Option, Some, None, length, map, refl, sym, ap, ◌∙◌, arith, IsTrue}
 use Rattle.std.specs.List.{list_any}
 use Rattle.std.specs.Option.{option_to_list}
 use Rattle.std.proofs.lemmas.List.{length-map}
 use Rattle.std.proofs.lemmas.List.Folds.{list_any-append}
+use Rattle.mc_model.specs.Steps.{is_permitted}
+use Rattle.mc_model.specs.Bits.{bits_of}
 use Rattle.mc_model.specs.Names.{Name, AreNames}
 use Rattle.mc_model.specs.Pattern as plain
 use Rattle.mc_model.specs.Valid.{prepared, measured}
 use Rattle.mc_model.proofs.ValidLemmas.{nothing_valid}
-use Rattle.mc_signal.specs.Outcomes.{bits_of}
 use Rattle.mc_text.specs.declared.head.Head.{Head}
 use Rattle.mc_text.specs.declared.head.Head.TheVariants.{In, N, E, M, X, Z}
 use Rattle.mc_text.specs.declared.point.Point.{Point}
@@ -40,12 +41,13 @@ first_line (Some X) e = absurd (cc e)
 first_line (Some Z) e = absurd (cc e)
 first_line (Some _) e = absurd (cc e)
 
-built_inputs : (half : ℕ) (names : List Name) (inputs : ℕ) (marks : List Bool) → AreNames names
-    → inputs ≡ length names → length marks ≡ 256 → bits_of marks ≡ measured []
+built_inputs : (half : ℕ) (names : List Name) (inputs : ℕ) (marks : List Bool)
+    → IsTrue (is_permitted half) → AreNames names → inputs ≡ length names → length marks ≡ 256 → bits_of marks ≡ measured []
     → IsBuilt half (begun names inputs []) marks
 unfolding prepared
-built_inputs half names inputs marks valid all long same = record {
+built_inputs half names inputs marks permitted valid all long same = record {
   begun = record {
+    permitted = permitted;
     names = valid;
     qubits = omega arith;
     commands = nothing_valid inputs;
@@ -73,7 +75,7 @@ inputs_line {half} k k' before h words p e kept ends g =
     rw (kept.names, nothing, g) refl in
     rw (commands, ← kept.names)
     (built_inputs half k.names (length (names_at is_input before (h ∷ words))) k'.marks
-    ends.valid all ends.long same)
+    kept.built.begun.permitted ends.valid all ends.long same)
 
 prepared_line : {half : ℕ} (k k' : Reader half) (before : Lines) (h a : List ℕ) (p : Point)
     → p ≡ point_of before (h ∷ a ∷ []) → IsKept k before (h ∷ a ∷ []) → Ends k k' p

@@ -2,7 +2,7 @@
 use Rattle.std.proofs.Common.{◌≡◌, ℕ, zero, suc, ◌+◌, ◌<◌, ◌≤◌, Bool, true, false, All, List, [], ◌∷◌, ◌++◌, length, map, take, codes, refl, sym, ap, ap₂, ◌∙◌, append_assoc, arith, Option, Some, None, IsTrue, if◌then◌else◌}
 use Rattle.std.specs.Fmt.{decimal}
 use Rattle.std.specs.List.{filter_map, flat_map, list_all, list_any}
-use Rattle.std.proofs.lemmas.Bool.{eqb-true, or_parts}
+use Rattle.std.proofs.lemmas.Bool.{or_parts}
 use Rattle.std.proofs.lemmas.Grind.{flat_map-append}
 use Rattle.std.proofs.lemmas.List.{append-nil, length-take-le, take_all}
 use Rattle.std.proofs.lemmas.List.Elements.{filter_map-append}
@@ -15,6 +15,7 @@ use Rattle.mc_model.specs.Names.{Name, AreNames, is_name}
 use Rattle.mc_model.specs.Pattern.{Command, Prep, Ent, Meas, FixX, FixZ, Pattern, has_constant}
 use Rattle.mc_model.specs.Signals.{Signal}
 use Rattle.mc_model.specs.Steps.{is_permitted}
+use Rattle.mc_model.proofs.StepLemmas.{permitted_at_most}
 use Rattle.mc_model.specs.Valid.{IsValid, prepared}
 use Rattle.mc_model.proofs.ValidLemmas.{prepared-append}
 use Rattle.mc_pattern.specs.Patterns.{IsPattern}
@@ -72,7 +73,7 @@ command_written half ns (Ent q r) valid permitted named typed =
     rw (first, second) refl
 command_written half ns (Meas q a s t) valid permitted named typed =
     let first = name_of ns q valid named.0 in
-    let four : half ≡ 4 = eqb-true half 4 permitted in
+    let few : half ≤ 8 = permitted_at_most half permitted in
     let turn = typed.0 in
     let number = number_written (decimal a) (number-decimal a (omega arith)).0 in
     let firsts = marked_written (codes "s:") ns s.members refl valid named.1 in

@@ -4,14 +4,13 @@ use Rattle.std.specs.List.{list_all}
 use Rattle.std.proofs.lemmas.Bool.{cases_Bool}
 use Rattle.std.proofs.lemmas.List.{append-nil}
 use Rattle.std.proofs.lemmas.List.Sums.{AllPass-from_list_all}
-use Rattle.mc_model.specs.Bits.{Bits}
+use Rattle.mc_model.specs.Bits.{Bits, bits_of}
 use Rattle.mc_model.specs.Names.{Name, AreNames, name_eq, is_held}
 use Rattle.mc_model.specs.Numbers.{ListsOnce}
 use Rattle.mc_model.specs.Pattern.{Pattern}
 use Rattle.mc_model.specs.Valid.{measured}
 use Rattle.mc_names.specs.Stored.{name_eq-true}
 use Rattle.mc_lists.proofs.Counted.{ListsOnce-same}
-use Rattle.mc_signal.specs.Outcomes.{bits_of}
 use Rattle.mc_text.specs.declared.head.Head.TheVariants.{End}
 use Rattle.mc_text.specs.Points.{last_head}
 use Rattle.mc_text.specs.Judged.{Lines}
@@ -85,6 +84,7 @@ pub reads_pattern : {half : ℕ} (k : Reader half) (lines : Lines) → IsKept k 
     → AreNames k.names → last_head lines ≡ Some End → IsPattern half (value_of k)
 reads_pattern k lines h names ends =
     let built = h.built.begun in record {
+      permitted = built.permitted;
       valid = record {
         names = names;
         qubits = rw (h.names, h.inputs) built.qubits;

@@ -1,10 +1,9 @@
 -- What is kept before the first line.
 use Rattle.std.proofs.Common.{◌≡◌, ℕ, List, [], Bool, false, replicate, refl, ap, arith}
 use Rattle.std.specs.List.{IsDistinct}
-use Rattle.mc_model.specs.Bits.{Bits}
+use Rattle.mc_model.specs.Bits.{Bits, bits_of}
 use Rattle.mc_model.specs.Names.{AreNames}
 use Rattle.mc_model.specs.Valid.{measured}
-use Rattle.mc_signal.specs.Outcomes.{bits_of}
 use Rattle.mc_pattern.specs.Patterns.{IsBuilt, begun}
 use Rattle.mc_pattern.proofs.Built.{built_start}
 use Rattle.mc_pattern_text.specs.declared.reader.Reader.{Reader}
@@ -25,7 +24,7 @@ pub starts : {half : ℕ} (k : Reader half) → k.names ≡ [] → k.inputs ≡ 
     → k.operands.s ≡ [] → k.operands.t ≡ [] → IsKept k [] []
 unfolding IsDistinct
 starts {half} k names inputs marks commands outputs s t =
-    let built : IsBuilt half (begun [] 0 []) k.marks = rw marks (built_start half [] no_names) in
+    let built : IsBuilt half (begun [] 0 []) k.marks = rw marks (built_start half [] k.permitted no_names) in
     record {
       names = names;
       inputs = inputs;

@@ -4,7 +4,7 @@ use Rattle.std.specs.List.{list_all}
 use Rattle.mc_model.specs.Names.{is_held, place_of}
 use Rattle.mc_model.specs.Numbers.{is_member}
 use Rattle.mc_model.specs.Signals.{Signal, no_signal}
-use Rattle.mc_model.specs.Shift.{ChangeRow}
+use Rattle.mc_model.specs.Shift.{ChangeRow, qubits_of, AreEarlier}
 use Rattle.mc_text.specs.declared.head.Head.{Head}
 use Rattle.mc_text.specs.declared.point.Point.{Point}
 use Rattle.mc_text.specs.Heads.{head_in, is_end}
@@ -13,7 +13,6 @@ use Rattle.mc_text.specs.Judged.{Words, Lines}
 use Rattle.mc_text.specs.Lists.{operand_at}
 use Rattle.mc_pattern_text.specs.declared.change_reader.ChangeReader.{ChangeReader}
 use Rattle.mc_pattern_text.specs.ChangeRoles.{role_of, is_row}
-use Rattle.mc_pattern_text.specs.ChangeRows.{qubits_of, AreEarlier}
 use Rattle.mc_pattern_text.specs.ChangeValue.{rows_of}
 use Rattle.mc_pattern_text.specs.Value.{signal_by}
 use Rattle.mc_pattern_text.specs.ChangeJudge.{judge_by, lacks_by, members_in, member_word}

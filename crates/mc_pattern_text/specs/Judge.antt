@@ -1,6 +1,7 @@
 -- The rules and limits of a pattern's section.
-use Rattle.std.specs.Prelude.{ℕ, List, [], ◌∷◌, ◌++◌, drop, Bool, true, false, not, ◌&&◌, ◌||◌, nat_le, length, if◌then◌else◌, Option, None, Some}
+use Rattle.std.specs.Prelude.{ℕ, List, [], ◌∷◌, ◌++◌, drop, Bool, true, false, not, ◌&&◌, ◌||◌, nat_le, length, if◌then◌else◌, Option, None, Some, suc}
 use Rattle.std.specs.List.{list_all}
+use Rattle.mc_model.specs.Limits.{most_commands}
 use Rattle.mc_model.specs.Names.{name_eq, is_held}
 use Rattle.mc_text.specs.declared.head.Head.{Head}
 use Rattle.mc_text.specs.declared.fault.Fault.TheVariants.{NotFixed, LineEnds, Surplus, Measured, SameOperand, NotMeasured, ListedTwice, OutputsLack}
@@ -90,7 +91,7 @@ first_member_word names measured members word =
 abbrev pub next_record : Option Head → ℕ → List ℕ → Option Judgement
 next_record last commands word =
     or_next (broken ((not (may_follow last (head_of word)), NotFixed) ∷ []))
-    (passed (is_command (head_of word) && nat_le 262144 commands) 3 262145)
+    (passed (is_command (head_of word) && nat_le most_commands commands) 3 (suc most_commands))
 
 -- a word by its role
 abbrev pub judge_by : Known → Option Head → Role → List ℕ → Option Judgement

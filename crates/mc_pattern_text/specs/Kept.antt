@@ -2,12 +2,12 @@
 use Rattle.std.specs.Prelude.{◌≡◌, ℕ, ◌+◌, ◌*◌, ◌<◌, ◌≤◌, List, [], ◌∷◌, ◌++◌, Bool, true, false, not, ◌||◌, ◌==◌, nat_eq, map, length, if◌then◌else◌, Option, None, Some, option_to_list}
 use Rattle.std.specs.List.{list_all, IsDistinct}
 use Rattle.mc_angle.specs.Angle.{angle_of}
-use Rattle.mc_model.specs.Bits.{Bits, replaced}
+use Rattle.mc_model.specs.Limits.{most_commands, most_qubits}
+use Rattle.mc_model.specs.Bits.{Bits, replaced, bits_of}
 use Rattle.mc_model.specs.Numbers.{is_member}
 use Rattle.mc_model.specs.Names.{AreNames, name_eq, is_name, is_held, place_of}
 use Rattle.mc_model.specs.Signals.{Signal, IsRising}
 use Rattle.mc_model.specs.Pattern as plain
-use Rattle.mc_signal.specs.Outcomes.{bits_of}
 use Rattle.mc_text.specs.declared.head.Head.{Head}
 use Rattle.mc_text.specs.declared.head.Head.TheVariants.{N, E, M, X, Z, Out, End}
 use Rattle.mc_text.specs.declared.point.Mark.{Mark}
@@ -85,7 +85,7 @@ pub record IsKept {half : ℕ} (k : Reader half) (before : Lines) (here : Words)
   pub built : IsBuilt half (begun (names_at is_defining before [])
       (length (names_at is_input before []))
       (map (plain_command {h = half}) k.commands.items)) k.marks
-  pub room : is_command (head_in here) ≡ true → length k.commands.items < 262144
+  pub room : is_command (head_in here) ≡ true → length k.commands.items < most_commands
   pub order : opens (last_head before) here ≡ true
   pub start : last_head before ≡ None → before ≡ []
   pub single : is_preparing (head_in here) ≡ true → length here ≤ 2
@@ -243,9 +243,9 @@ pub record Ends {half : ℕ} (k k' : Reader half) (p : Point) : Type 0 where
   pub commands : map (plain_command {h = half}) k'.commands.items
       ≡ map (plain_command {h = half}) k.commands.items
       ++ option_to_list (command_with p.head k.operands)
-  pub marks : k.operands.first < 256
+  pub marks : k.operands.first < most_qubits
       → bits_of k'.marks ≡ marks_with p.head k.operands.first (bits_of k.marks)
   pub same_marks : is_measuring p.head ≡ false → k'.marks ≡ k.marks
-  pub long : length k'.marks ≡ 256
+  pub long : length k'.marks ≡ most_qubits
   pub s : k'.operands.s ≡ []
   pub t : k'.operands.t ≡ []

@@ -3,11 +3,11 @@
 ghost use Rattle.std.specs.Prelude.{◌≡◌, List, [], None};
 ghost use Rattle.mc_lex.specs.Lines.{end_of};
 ghost use Rattle.mc_model.specs.Pattern.{Pattern};
-ghost use Rattle.mc_model.specs.Shift.{ChangeRow};
+ghost use Rattle.mc_model.specs.Shift.{ChangeRow, IsChangeOf};
 ghost use Rattle.mc_model.specs.Valid.{IsValidPattern};
 ghost use Rattle.mc_text.specs.Judged.{first_in_section, section_lines, behind_section};
 ghost use Rattle.mc_pattern_text.specs.Canonical.{behind_header};
-ghost use Rattle.mc_pattern_text.specs.ChangeRows.{IsChangeOf, AllPlain};
+ghost use Rattle.mc_pattern_text.specs.ChangeRows.{AllPlain};
 ghost use Rattle.mc_pattern_text.specs.ChangeJudge.{change_rules};
 ghost use Rattle.mc_pattern_text.specs.ChangeValue.{rows_of};
 ghost use Rattle.mc_pattern_text.specs.ChangeCanonical.{change_text};

@@ -1,8 +1,8 @@
 //! The measured qubits of a pattern, in measuring order.
 
 ghost use Rattle.std.specs.Prelude.{◌≡◌, ◌++◌, ◌∷◌, [], ◌<◌, All, OnOk, IfOk, map};
+ghost use Rattle.mc_model.specs.Pattern.{measured_order};
 ghost use Rattle.mc_pattern.specs.Commands.{plain_command};
-ghost use Rattle.mc_pattern_text.specs.ChangeRows.{measured_order};
 ghost use Rattle.mc_pattern_text.specs.ChangePlaces.{ArePlaces};
 
 use mc_model::Memory;

@@ -1,8 +1,9 @@
 //! Printing a change.
 
 ghost use Rattle.std.specs.Prelude.{◌≡◌, ◌++◌, ◌∷◌, [], ◌<◌, All, IfOk, OnOk, length, map, codes};
+ghost use Rattle.mc_model.specs.Shift.{IsChangeOf};
 ghost use Rattle.mc_write.specs.Text.{line_text, text_of};
-ghost use Rattle.mc_pattern_text.specs.ChangeRows.{IsChangeOf, AreRowsNamed, IsRowNamed};
+ghost use Rattle.mc_pattern_text.specs.ChangeRows.{AreRowsNamed, IsRowNamed};
 ghost use Rattle.mc_pattern_text.specs.ChangeCanonical.{row_line, change_text};
 
 use crate::print::{add_members, print_end};

@@ -1,10 +1,10 @@
 //! Reading a change behind its pattern.
 
 ghost use Rattle.std.specs.Prelude.{◌≡◌, ℕ, [], Err, None, OnOk, IfOk, IfErr};
+ghost use Rattle.mc_model.specs.Shift.{IsChangeOf};
 ghost use Rattle.mc_lex.specs.Left.{IsFurther};
 ghost use Rattle.mc_text.specs.Judged.{first_in_section, section_lines, behind_section};
 ghost use Rattle.mc_text.specs.Stops.{IsEnd};
-ghost use Rattle.mc_pattern_text.specs.ChangeRows.{IsChangeOf};
 ghost use Rattle.mc_pattern_text.specs.ChangeJudge.{change_rules};
 ghost use Rattle.mc_pattern_text.specs.ChangeValue.{rows_of};
 

@@ -3,10 +3,10 @@
 ghost use Rattle.std.specs.Prelude.{◌≡◌, ℕ, ◌*◌, ◌<◌, List, Option, [], ◌∷◌, false, true, OnOk, IfOk, IfErr, IsTrue, Some, None};
 ghost use Rattle.std.specs.Option.{option_map};
 ghost use Rattle.mc_angle.specs.Angle.{angle_of};
+ghost use Rattle.mc_model.specs.Bits.{bits_of};
 ghost use Rattle.mc_model.specs.Steps.{is_permitted};
 ghost use Rattle.mc_model.specs.Numbers.{is_member};
 ghost use Rattle.mc_model.specs.Names.{is_name, place_of};
-ghost use Rattle.mc_signal.specs.Outcomes.{bits_of};
 ghost use Rattle.mc_pattern.specs.Commands.{plain_command};
 ghost use Rattle.mc_text.specs.Rules.{angle_word};
 ghost use Rattle.mc_text.specs.Stops.{IsStop};

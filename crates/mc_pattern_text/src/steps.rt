@@ -4,9 +4,8 @@ ghost use Rattle.std.specs.Prelude.{◌≡◌, ◌↔◌, ℕ, ◌<◌, ◌≤�
 ghost use Rattle.std.specs.List.{list_any, list_all};
 ghost use Rattle.std.specs.Option.{option_map};
 ghost use Rattle.mc_pattern.specs.Commands.{plain_command};
-ghost use Rattle.mc_model.specs.Bits.{replaced};
+ghost use Rattle.mc_model.specs.Bits.{replaced, bits_of};
 ghost use Rattle.mc_model.specs.Numbers.{is_member};
-ghost use Rattle.mc_signal.specs.Outcomes.{bits_of};
 ghost use Rattle.mc_model.specs.Names.{place_of};
 ghost use Rattle.mc_text.specs.Rules.{new_name, AreNumbers};
 ghost use Rattle.mc_text.specs.Stops.{IsStop};

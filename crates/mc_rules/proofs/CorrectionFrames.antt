@@ -8,7 +8,6 @@ use Rattle.mc_model.specs.Bits.{◌⊻◌, Bits, replaced, parity}
 use Rattle.mc_model.specs.Signals.{Signal, value, no_signal, signal_sum, Signals}
 use Rattle.mc_model.specs.Pattern.{Command, Prep, Ent, Meas, FixX, FixZ}
 use Rattle.mc_model.specs.Amplitude.{Amps, act, after}
-use Rattle.mc_model.specs.Alike.{AlikeMaps}
 use Rattle.mc_model.proofs.SignalLemmas.{reset, value-sum}
 use Rattle.mc_rules.specs.OnePass.{joined, handed, carried}
 use Rattle.mc_rules.proofs.Stripped.{stripped, OperandsFit}
@@ -28,9 +27,6 @@ unfolding dot
 dot_same zero x y p r h = refl
 dot_same (suc n) x y p r h =
     ap₂ (λ (a b : Bool). a ⊻ b) (h n (omega arith)) (dot_same n x y p r (λ k m. h k (omega arith)))
-
-split_bits : (c d x p b v : Bool) → c ≡ d ⊻ (b && v) → (x && p) ⊻ c ≡ ((x && p) ⊻ d) ⊻ (b && v)
-split_bits c d x p b v e = grind arith
 
 -- one bit of the first, against the second without it
 dot-at : (n : ℕ) (x p : Bits) (i : ℕ) (b : Bool) → i < n →
@@ -139,8 +135,10 @@ e_bits : (xi xj pi pj d : Bool) →
     (xi && xj) ⊻ d ≡ (pi && pj) ⊻ (((d ⊻ (xi && pj)) ⊻ (xj && pi)) ⊻ ((xi ⊻ pi) && (xj ⊻ pj)))
 e_bits xi xj pi pj d = grind arith
 
-m_bits : (d b p : Bool) → d ⊻ (b && p) ≡ d ⊻ (p && b)
-m_bits d b p = grind arith
+-- two operators on amplitudes agree up to one power of `w`, the same for all amplitudes
+pub record AlikeMaps {E : Type 0} (ops : PhaseOps E) (F G : Amps E → Amps E) : Type 0 where
+  pub phase : ℕ
+  pub same : (f : Amps E) (x : Bits) → F f x ≡ turn ops phase (G f x)
 
 module _ {E : Type 0} (ops : PhaseOps E) (laws : PhaseLaws ops) where
   -- the amplitudes behind corrections `X` where `px` is 1 and `Z` where `pz` is 1

@@ -5,16 +5,55 @@ use mathlib.Core.Logic.{inl, inr}
 use Rattle.mc_model.specs.Signals.{no_signal}
 use Rattle.mc_model.specs.Pattern.{Command, FixX, FixZ}
 use Rattle.mc_model.specs.Valid.{IsValid}
-use Rattle.mc_model.specs.Derivation.{Rule, XE, ZE, XM, ZM, Swap, Join, EE, Cancel, XZ, Turn,
-    DropEmpty, Rewrites, x_first, x_second, z_first, z_second, x_measured, z_measured, swapped,
-    x_joined, z_joined, edges_exchanged, same_cancelled, turned_cancelled, x_behind_z, z_behind_x,
-    turned, x_dropped, z_dropped, part, is_turned}
+use Rattle.mc_model.specs.Derivation.{
+  Rule,
+  XE,
+  ZE,
+  XM,
+  ZM,
+  Swap,
+  Join,
+  EE,
+  Cancel,
+  XZ,
+  Turn,
+  DropEmpty,
+  Rewrites,
+  x_first,
+  x_second,
+  z_first,
+  z_second,
+  x_measured,
+  z_measured,
+  swapped,
+  x_joined,
+  z_joined,
+  edges_exchanged,
+  same_cancelled,
+  turned_cancelled,
+  x_behind_z,
+  z_behind_x,
+  turned,
+  x_dropped,
+  z_dropped,
+  part,
+  is_turned,
+}
 use Rattle.mc_rules.specs.Improves.{Improvement}
 use Rattle.mc_rules.specs.Nearer.{PassingImproves, SettlingTwoImproves, SettlingOneImproves}
 use Rattle.mc_rules.specs.Settled.{InOrder}
 use Rattle.mc_rules.proofs.FirstOutOfOrder.{may_pass, moved, local_fit}
-use Rattle.mc_rules.proofs.ImprovedInOrder.{Shortens, join_x_shortens, join_z_shortens,
-    cancel_shortens, drop_x_shortens, drop_z_shortens, shortened, exchanged, turned_round}
+use Rattle.mc_rules.proofs.ImprovedInOrder.{
+  Shortens,
+  join_x_shortens,
+  join_z_shortens,
+  cancel_shortens,
+  drop_x_shortens,
+  drop_z_shortens,
+  shortened,
+  exchanged,
+  turned_round,
+}
 
 pub passing_improves : PassingImproves
 passing_improves inputs rule before c d new behind v order less rewrites =

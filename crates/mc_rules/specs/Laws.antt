@@ -1,9 +1,8 @@
 -- The laws of the standard form and of rewriting, over the amplitude ring with any `half` above 0.
 use Rattle.std.specs.Prelude.{◌≡◌, ◌↔◌, ◌⊎◌, ℕ, ◌<◌, ◌≤◌, Bool, false, List, length}
-use Rattle.std.specs.List.{list_any}
 use Rattle.mc_model.specs.Bits.{Bits}
 use Rattle.mc_model.specs.Ring.{ring}
-use Rattle.mc_model.specs.Pattern.{Command, Pattern, has_constant}
+use Rattle.mc_model.specs.Pattern.{Command, Pattern, HasNoConstants}
 use Rattle.mc_model.specs.Amplitude.{zero_branch, pattern_scale}
 use Rattle.mc_model.specs.Alike.{AlikeBranches, AlikeCommands}
 use Rattle.mc_model.specs.Valid.{IsValid, IsValidPattern}
@@ -21,7 +20,7 @@ StandardIsAlike = (half : ℕ) → 0 < half → (p : Pattern) → IsValidPattern
 -- without constants the zero branch is the same
 abbrev pub StandardKeepsZeroBranch : Type 0
 StandardKeepsZeroBranch = (half : ℕ) → 0 < half → (p : Pattern) → IsValidPattern p →
-    list_any has_constant p.commands ≡ false → (y : List Bool) (b : Bits) →
+    HasNoConstants p.commands → (y : List Bool) (b : Bits) →
     zero_branch (ring half) (standard_form p) y b ≡ zero_branch (ring half) p y b
 
 -- the standard form of a pattern is valid and its own standard form, and keeps the scale

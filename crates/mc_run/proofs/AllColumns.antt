@@ -1,27 +1,27 @@
 -- The columns of all branches of a pattern, setting by setting of the inputs.
-use Rattle.std.proofs.Common.{◌≡◌, ℕ, suc, ◌+◌, ◌*◌, ◌^◌, ◌<◌, ◌≤◌, ℤ, List, [], ◌∷◌, ◌++◌, length, refl, sym, subst, ap, ap₂, ◌∙◌, arith, length-append}
+use Rattle.std.proofs.Common.{◌≡◌, ℕ, suc, ◌+◌, ◌*◌, ◌^◌, ◌<◌, ◌≤◌, ℤ, List, [], ◌∷◌, ◌++◌, length}
+use Rattle.std.proofs.Common.{refl, sym, subst, ap, ap₂, ◌∙◌, arith, length-append}
 use Rattle.std.proofs.lemmas.Bool.{cases_eq}
 use Rattle.std.proofs.lemmas.Nat.{mul-add-lt, pow-add}
 use Rattle.std.proofs.Math.Pow.{pow_mono}
 use Rattle.std.proofs.lemmas.List.{get_or-append-add, get_or_append_left}
 use mathlib.Core.Logic.{inl, inr}
-use Rattle.mc_model.specs.Bits.{Bits, all_zero, numbers_below}
+use Rattle.mc_model.specs.Bits.{Bits, all_zero, bits_of}
 use Rattle.mc_model.specs.Ring.{ring}
-use Rattle.mc_model.specs.Pattern.{Pattern}
+use Rattle.mc_model.specs.Pattern.{Pattern, measured_order}
 use Rattle.mc_model.specs.Valid.{IsValidPattern}
 use Rattle.mc_model.specs.Amplitude.{start, after, branch_map}
-use Rattle.mc_signal.specs.Outcomes.{bits_of}
 use Rattle.mc_pattern.specs.Patterns.{measured_count}
 use Rattle.mc_cyclo.specs.Cyclo.{IsLong}
 use Rattle.mc_run.specs.Exact.{phases}
-use Rattle.mc_run.specs.Settings.{spelled}
+use Rattle.mc_run.specs.Settings.{spelled, numbers_below}
 use Rattle.mc_run.specs.Sources.{entry, Holds}
-use Rattle.mc_run.specs.Reports.{measured_order, outcomes_of}
+use Rattle.mc_run.specs.Reports.{outcomes_of}
 use Rattle.mc_run.specs.Branches.{AreColumns, AreAllColumns, branch_outcomes}
 use Rattle.mc_run.proofs.CommandsLeft.{commands_begin}
-use Rattle.mc_run.proofs.Joined.{cyclo, branch_value}
-use Rattle.mc_run.proofs.Order.{order_long}
-use Rattle.mc_run.proofs.Branching.{branch_is}
+use Rattle.mc_run.proofs.CoefficientLists.{cyclo, branch_value}
+use Rattle.mc_run.proofs.MeasuringOrder.{order_long}
+use Rattle.mc_run.proofs.PartedBranches.{branch_is}
 
 pub no_columns : (half : ℕ) (p : Pattern) (entries : List (List ℤ)) → entries ≡ [] →
     AreAllColumns half p 0 entries

@@ -1,5 +1,8 @@
 -- What the loop over the commands keeps.
-use Rattle.std.proofs.Common.{◌≡◌, ℕ, zero, suc, ◌+◌, ◌^◌, ◌<◌, ◌≤◌, Bool, true, false, not, cond, ◌||◌, ℤ, List, [], ◌∷◌, ◌++◌, length, map, drop, slice_index_or, get_or, refl, sym, subst, ap, ap₂, ◌∙◌, arith, append_assoc, append-nil}
+use Rattle.std.proofs.Common.{◌≡◌, ℕ, zero, suc, ◌+◌, ◌^◌, ◌<◌, ◌≤◌, Bool, true, false, not, cond}
+use Rattle.std.proofs.Common.{◌||◌, ℤ, List, [], ◌∷◌, ◌++◌, length, map, drop, slice_index_or}
+use Rattle.std.proofs.Common.{get_or, refl, sym, subst, ap, ap₂, ◌∙◌, arith, append_assoc}
+use Rattle.std.proofs.Common.{append-nil}
 use Rattle.std.specs.Prelude.{nat_eq, All, count_by}
 use Rattle.std.proofs.Math.Seq.{drop-cons}
 use Rattle.std.proofs.Math.Pow.{pow_mono}
@@ -7,15 +10,16 @@ use Rattle.std.proofs.lemmas.Bool.{eq-eqb, ne_eqb, cases_eq, cases_Bool, false�
 use Rattle.std.proofs.lemmas.List.Elements.{All-cons, All-nil}
 use Rattle.std.proofs.lemmas.List.Sums.{sum_by-cons}
 use mathlib.Core.Logic.{inl, inr}
-use Rattle.mc_model.specs.Bits.{Bits, replaced, numbers_below}
+use Rattle.mc_model.specs.Bits.{Bits, replaced}
 use Rattle.mc_model.specs.Numbers.{is_member}
 use Rattle.mc_model.specs.Amplitude.{Amps, start, after, act}
 use Rattle.mc_model.specs.Pattern.{Command, Prep, Ent, Meas, FixX, FixZ, Pattern}
-use Rattle.mc_model.specs.Valid.{AllDone, IsLive, FitsBehind, IsValid, IsValidPattern, measured, prepared}
+use Rattle.mc_model.specs.Valid.{AllDone, IsLive, FitsBehind, IsValid, IsValidPattern, measured}
+use Rattle.mc_model.specs.Valid.{prepared}
 use Rattle.mc_model.proofs.BitLemmas.{replaced_same, replaced_other}
 use Rattle.mc_model.proofs.ValidLemmas.{prepared-append, next_measured, none_measured}
 use Rattle.mc_run.specs.Exact.{Exact, phases}
-use Rattle.mc_run.specs.Settings.{without}
+use Rattle.mc_run.specs.Settings.{without, numbers_below}
 use Rattle.mc_run.specs.Sources.{IsStepped, Holds}
 use Rattle.mc_run.specs.Gates.{IsLiving, command_step, live_behind, IsReady, AreLow, IsLowBefore}
 use Rattle.mc_run.specs.Branches.{CommandsLeft, Ignores}
@@ -23,8 +27,8 @@ use Rattle.mc_run.proofs.Turns.{Obeys}
 use Rattle.mc_run.proofs.Digits.{length-without}
 use Rattle.mc_run.proofs.Steps.{prep_holds, ent_holds, x_holds, z_holds, meas_holds}
 use Rattle.mc_run.proofs.GatesLeft.{member_below}
-use Rattle.mc_run.proofs.Starts.{length-below, start_ignores}
-use Rattle.mc_run.proofs.Ignoring.{grows, fits_miss, act_ignores}
+use Rattle.mc_run.proofs.InputVectors.{length-below, start_ignores}
+use Rattle.mc_run.proofs.UntouchedQubits.{grows, fits_miss, act_ignores}
 
 or_right : (a : Bool) → a || true ≡ true
 or_right true = refl

@@ -1,10 +1,11 @@
 -- What the loop over the gates keeps.
-use Rattle.std.proofs.Common.{◌≡◌, ℕ, zero, suc, ◌+◌, ◌^◌, ◌<◌, ◌≤◌, true, ℤ, List, [], ◌∷◌, length, map, drop, slice_index_or, refl, sym, subst, ap₂, ◌∙◌, arith}
+use Rattle.std.proofs.Common.{◌≡◌, ℕ, zero, suc, ◌+◌, ◌^◌, ◌<◌, ◌≤◌, true, ℤ, List, [], ◌∷◌, length}
+use Rattle.std.proofs.Common.{map, drop, slice_index_or, refl, sym, subst, ap₂, ◌∙◌, arith}
 use Rattle.std.proofs.Math.Seq.{drop-cons}
 use Rattle.std.proofs.Math.Pow.{pow_mono}
 use Rattle.std.proofs.lemmas.Bool.{eq-eqb, ne_eqb, cases_eq}
 use mathlib.Core.Logic.{inl, inr}
-use Rattle.mc_model.specs.Bits.{numbers_below}
+use Rattle.mc_run.specs.Settings.{numbers_below}
 use Rattle.mc_model.specs.Numbers.{is_member}
 use Rattle.mc_model.specs.Amplitude.{Amps, after_gates, act_gate, j_count}
 use Rattle.mc_model.specs.Pattern.{Gate, J, CZ}

@@ -1,5 +1,6 @@
 -- Places that spell bits on the outputs.
-use Rattle.std.proofs.Common.{◌≡◌, ℕ, suc, ◌-◌, ◌/◌, ◌^◌, ◌<◌, ◌≤◌, Bool, List, [], ◌∷◌, length, get_or, take, drop, refl, ap, ap₂, ◌∙◌, arith}
+use Rattle.std.proofs.Common.{◌≡◌, ℕ, suc, ◌-◌, ◌/◌, ◌^◌, ◌<◌, ◌≤◌, Bool, List, [], ◌∷◌, length}
+use Rattle.std.proofs.Common.{get_or, take, drop, refl, ap, ap₂, ◌∙◌, arith}
 use Rattle.std.specs.Prelude.{All}
 use Rattle.std.proofs.lemmas.Nat.{pow_pos}
 use Rattle.std.proofs.lemmas.List.Elements.{All-head, All-tail}
@@ -7,7 +8,8 @@ use Rattle.std.proofs.lemmas.List.{take_all}
 use Rattle.mc_model.specs.Bits.{all_zero, replaced}
 use Rattle.mc_model.specs.Amplitude.{placed}
 use Rattle.mc_model.proofs.BitLemmas.{replaced_itself}
-use Rattle.mc_run.specs.Settings.{is_odd, setting, spelled, weight, digit, with_digit, place_spelled}
+use Rattle.mc_run.specs.Settings.{is_odd, setting, spelled, weight, digit, with_digit}
+use Rattle.mc_run.specs.Settings.{place_spelled}
 use Rattle.mc_run.specs.Gates.{IsLiving}
 use Rattle.mc_run.proofs.Digits.{setting_with, with_below}
 

@@ -1,5 +1,6 @@
 -- Turns and signs as turns by numbers of steps, over the laws of a ring with heights.
-use Rattle.std.proofs.Common.{◌≡◌, ℕ, zero, suc, ◌+◌, ◌≤◌, Bool, true, false, cond, ℤ, List, sym, ap, ◌∙◌, arith}
+use Rattle.std.proofs.Common.{◌≡◌, ℕ, zero, suc, ◌+◌, ◌≤◌, Bool, true, false, cond, ℤ, List, sym}
+use Rattle.std.proofs.Common.{ap, ◌∙◌, arith}
 use Rattle.mc_model.specs.Phase.{turn, sign}
 use Rattle.mc_ring.specs.Laws.{RingLaws, TurnLaws, HeightLaws}
 use Rattle.mc_run.specs.Exact.{Exact, exact, phases}

@@ -1,9 +1,9 @@
 -- Branches of a pattern that go on from the same vector.
-use Rattle.std.specs.Prelude.{◌≡◌, ℕ, ◌+◌, ◌*◌, ◌^◌, ◌<◌, ◌≤◌, Bool, true, false, ℤ, List, [], ◌∷◌, ◌++◌, length}
-use Rattle.mc_model.specs.Bits.{Bits, replaced}
-use Rattle.mc_model.specs.Pattern.{Command, Pattern}
+use Rattle.std.specs.Prelude.{◌≡◌, ℕ, ◌+◌, ◌*◌, ◌^◌, ◌<◌, ◌≤◌, Bool, true, false, ℤ, List, [], ◌∷◌}
+use Rattle.std.specs.Prelude.{◌++◌, length}
+use Rattle.mc_model.specs.Bits.{Bits, replaced, bits_of}
+use Rattle.mc_model.specs.Pattern.{Command, Pattern, measured_order}
 use Rattle.mc_model.specs.Ring.{ring}
-use Rattle.mc_signal.specs.Outcomes.{bits_of}
 use Rattle.mc_pattern.specs.Patterns.{measured_count}
 use Rattle.mc_model.specs.Valid.{measured, prepared}
 use Rattle.mc_model.specs.Amplitude.{Amps, after, placed, branch_map}
@@ -11,7 +11,7 @@ use Rattle.mc_run.specs.Exact.{Exact, phases}
 use Rattle.mc_run.specs.Settings.{spelled}
 use Rattle.mc_run.specs.Sources.{entry, Holds}
 use Rattle.mc_run.specs.Gates.{IsLiving}
-use Rattle.mc_run.specs.Reports.{measured_order, outcomes_of}
+use Rattle.mc_run.specs.Reports.{outcomes_of}
 
 -- the amplitudes are the same whatever the bit of a qubit
 abbrev pub Ignores : {E : Type 0} → Amps E → ℕ → Type 0

@@ -1,22 +1,14 @@
 -- Reports on all branches of a pattern.
-use Rattle.std.specs.Prelude.{◌≡◌, ℕ, ◌*◌, ◌^◌, ◌<◌, ℤ, List, [], ◌∷◌, length, slice_index_or, Option, MatchOption}
+use Rattle.std.specs.Prelude.{◌≡◌, ℕ, ◌*◌, ◌^◌, ◌<◌, ℤ, List, [], ◌∷◌, length, slice_index_or}
+use Rattle.std.specs.Prelude.{Option, MatchOption}
 use Rattle.mc_model.specs.Bits.{Bits}
 use Rattle.mc_model.specs.Ring.{ring}
-use Rattle.mc_model.specs.Pattern.{Command, Prep, Ent, Meas, FixX, FixZ, Pattern}
+use Rattle.mc_model.specs.Pattern.{Command, Prep, Ent, Meas, FixX, FixZ, Pattern, measured_order}
 use Rattle.mc_model.specs.Amplitude.{placed, branch_map, pattern_scale}
 use Rattle.mc_pattern.specs.Patterns.{measured_count}
 use Rattle.mc_cyclo.specs.Phase.{IsPhase}
 use Rattle.mc_run.specs.Settings.{spelled}
 use Rattle.mc_run.specs.Tables.{TableValue, IsTableOf}
-
--- the qubits that are measured, in measuring order
-abbrev pub measured_order : List Command → List ℕ
-measured_order [] = []
-measured_order (Prep q ∷ cs) = measured_order cs
-measured_order (Ent q r ∷ cs) = measured_order cs
-measured_order (FixX q s ∷ cs) = measured_order cs
-measured_order (FixZ q s ∷ cs) = measured_order cs
-measured_order (Meas q a s t ∷ cs) = q ∷ measured_order cs
 
 -- the outcomes of a branch by its number, of which the qubit that is measured first has the most
 -- significant bit

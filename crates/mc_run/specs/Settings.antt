@@ -1,7 +1,13 @@
 -- Places in a vector of amplitudes: the settings of the live qubits that they spell.
-use Rattle.std.specs.Prelude.{ℕ, zero, suc, ◌+◌, ◌*◌, ◌/◌, ◌%◌, ◌^◌, Bool, not, cond, nat_eq, List, [], ◌∷◌, length}
+use Rattle.std.specs.Prelude.{ℕ, zero, suc, ◌+◌, ◌*◌, ◌/◌, ◌%◌, ◌^◌, Bool, not, cond, nat_eq, List}
+use Rattle.std.specs.Prelude.{[], ◌∷◌, length}
 use Rattle.std.specs.List.{prefix_len}
 use Rattle.mc_model.specs.Bits.{Bits, all_zero, replaced}
+
+-- the numbers below `n`, the last first
+abbrev pub numbers_below : ℕ → List ℕ
+numbers_below zero = []
+numbers_below (suc n) = n ∷ numbers_below n
 
 abbrev pub is_odd : ℕ → Bool
 is_odd n = nat_eq (n % 2) 1

@@ -1,8 +1,9 @@
 -- Tables of entries.
-use Rattle.std.specs.Prelude.{◌≡◌, ℕ, ◌+◌, ◌*◌, ◌^◌, ◌<◌, ◌≤◌, Bool, ℤ, List, [], length, slice_index_or}
-use Rattle.mc_model.specs.Bits.{Bits}
+use Rattle.std.specs.Prelude.{◌≡◌, ℕ, ◌+◌, ◌*◌, ◌^◌, ◌<◌, ◌≤◌, Bool, ℤ, List, [], length}
+use Rattle.std.specs.Prelude.{slice_index_or}
+use Rattle.mc_model.specs.Limits.{most_run_size}
+use Rattle.mc_model.specs.Bits.{Bits, bits_of}
 use Rattle.mc_model.specs.Ring.{Element}
-use Rattle.mc_signal.specs.Outcomes.{bits_of}
 use Rattle.mc_run.specs.Settings.{spelled}
 
 -- how many outputs and inputs there are, the power of the root of two that every entry is over, and
@@ -19,7 +20,7 @@ entry_at t y b = slice_index_or t.entries (b * 2 ^ t.outputs + y) []
 
 pub record IsTable (t : TableValue) : Type 0 where
   pub long : length t.entries ≡ 2 ^ t.inputs * 2 ^ t.outputs
-  pub small : t.outputs + t.inputs ≤ 16
+  pub small : t.outputs + t.inputs ≤ most_run_size
 
 -- the table of an amplitude for output bits and input bits, with the bits of the first output and of
 -- the first input the most significant of the two numbers

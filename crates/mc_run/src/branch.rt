@@ -1,10 +1,11 @@
 //! Tables of branches.
 
-ghost use Rattle.std.specs.Prelude.{◌≡◌, ◌↔◌, ℕ, ◌+◌, ◌*◌, ◌^◌, ◌≤◌, [], ◌∷◌, IfOk, OnOk, Err, IsTrue, None, Some, length, map};
+ghost use Rattle.std.specs.Prelude.{◌≡◌, ◌↔◌, ℕ, ◌+◌, ◌*◌, ◌^◌, ◌≤◌, [], ◌∷◌, IfOk, OnOk, Err};
+ghost use Rattle.std.specs.Prelude.{IsTrue, None, Some, length, map};
+ghost use Rattle.mc_model.specs.Bits.{bits_of};
 ghost use Rattle.mc_model.specs.Steps.{is_permitted};
 ghost use Rattle.mc_model.specs.Ring.{ring};
 ghost use Rattle.mc_model.specs.Amplitude.{branch_map, pattern_scale, halvings};
-ghost use Rattle.mc_signal.specs.Outcomes.{bits_of};
 ghost use Rattle.mc_pattern.specs.Commands.{plain_command};
 ghost use Rattle.mc_run.specs.Limits.{branch_limit};
 ghost use Rattle.mc_run.specs.Tables.{IsTableOf};
@@ -85,15 +86,15 @@ pub(crate) fn branch_table<const H: usize>(
     })
 }
 
-/// The table of the branch of a pattern in which the measurements have these outcomes: the amplitudes that its commands make of
-/// each setting of the inputs, by the settings of the outputs (Danos, Kashefi and Panangaden 2007). `Limit` comes exactly where
-/// qubits and inputs together are more than 16, by the number 4, or else the commands are more than 256, by the number 5.
+/// The table of the branch of a pattern in which the measurements have these outcomes: the
+/// amplitudes that its commands make of each setting of the inputs, by the settings of the outputs
+/// (Danos, Kashefi and Panangaden 2007). `Limit` comes exactly where qubits and inputs together are
+/// more than 16, by the number 4, or else the commands are more than 256, by the number 5.
 pub fn run_branch<const H: usize>(
     alloc: Global,
     pattern: &Pattern<H>,
     outcomes: &Outcomes,
 ) -> Result<Table<H>, RunEnd>
-    requires permitted { IsTrue (is_permitted H) }
     requires outcomes { length pattern.now.names ≤ length outcomes.now }
     ensures table { IfOk result (λ table. IsTableOf (length pattern.now.outputs) pattern.now.inputs
         (pattern_scale pattern.now) (branch_map (ring H) pattern.now (bits_of outcomes.now)) table) }

@@ -1,6 +1,7 @@
 //! Tables of circuits.
 
-ghost use Rattle.std.specs.Prelude.{◌≡◌, ◌↔◌, ℕ, ◌+◌, ◌≤◌, IfOk, OnOk, Err, IsTrue, None, Some, length, map};
+ghost use Rattle.std.specs.Prelude.{◌≡◌, ◌↔◌, ℕ, ◌+◌, ◌≤◌, IfOk, OnOk, Err, IsTrue, None, Some};
+ghost use Rattle.std.specs.Prelude.{length, map};
 ghost use Rattle.mc_model.specs.Steps.{is_permitted};
 ghost use Rattle.mc_model.specs.Ring.{ring};
 ghost use Rattle.mc_model.specs.Pattern.{wires};
@@ -70,11 +71,11 @@ fn circuit_table<const H: usize>(
     })
 }
 
-/// The table of a circuit: the amplitudes that its gates make of each setting of the inputs, by the settings of the outputs
-/// (Danos, Kashefi and Panangaden 2007). `Limit` comes exactly where wires and inputs together are more than 16, by the
-/// number 4, or else the `J` gates are more than 60, by the number 5.
+/// The table of a circuit: the amplitudes that its gates make of each setting of the inputs, by the
+/// settings of the outputs (Danos, Kashefi and Panangaden 2007). `Limit` comes exactly where wires
+/// and inputs together are more than 16, by the number 4, or else the `J` gates are more than 60,
+/// by the number 5.
 pub fn run_circuit<const H: usize>(alloc: Global, circuit: &Circuit<H>) -> Result<Table<H>, RunEnd>
-    requires { IsTrue (is_permitted H) }
     ensures table { IfOk result (λ table. IsTableOf (length circuit.now.outputs) circuit.now.inputs
         (circuit_scale circuit.now) (circuit_table (ring H) circuit.now) table) }
     ensures limit { (which found : ℕ) → (result ≡ Err (RunEnd.Limit which found)) ↔

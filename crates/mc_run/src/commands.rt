@@ -1,15 +1,17 @@
 //! Patterns, command by command.
 
-ghost use Rattle.std.specs.Prelude.{◌≡◌, ℕ, ◌+◌, ◌*◌, ◌<◌, ◌≤◌, ◌^◌, ◌%◌, ◌∷◌, cond, All, IfOk, IsTrue, length, map};
+ghost use Rattle.std.specs.Prelude.{◌≡◌, ℕ, ◌+◌, ◌*◌, ◌<◌, ◌≤◌, ◌^◌, ◌%◌, ◌∷◌, cond, All, IfOk};
+ghost use Rattle.std.specs.Prelude.{IsTrue, length, map};
+ghost use Rattle.mc_model.specs.Bits.{bits_of};
 ghost use Rattle.mc_model.specs.Steps.{is_permitted};
 ghost use Rattle.mc_model.specs.Phase.{negated, measured_angle};
 ghost use Rattle.mc_model.specs.Amplitude.{start, after};
-ghost use Rattle.mc_signal.specs.Outcomes.{bits_of};
 ghost use Rattle.mc_pattern.specs.Commands.{plain_command};
 ghost use Rattle.mc_run.specs.Exact.{exact, phases};
 ghost use Rattle.mc_run.specs.Settings.{spelled, without};
 ghost use Rattle.mc_run.specs.Sources.{IsStepped, IsSmall, half_where, Holds};
-ghost use Rattle.mc_run.specs.Gates.{command_step, live_behind, IsReady, IsMeasuredLive, IsLowBefore, IsLiving};
+ghost use Rattle.mc_run.specs.Gates.{command_step, live_behind, IsReady, IsMeasuredLive};
+ghost use Rattle.mc_run.specs.Gates.{IsLowBefore, IsLiving};
 
 use crate::place::{place_of, weight_of};
 use crate::state::{State, advanced, started};

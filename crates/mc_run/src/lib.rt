@@ -1,4 +1,5 @@
-//! One dense runner: the tables of circuits and of patterns, over a vector of the live qubits' amplitudes.
+//! One dense runner: the tables of circuits and of patterns, over a vector of the live qubits'
+//! amplitudes.
 #![tactic(auto)]
 
 mod branch;

@@ -14,8 +14,8 @@ const MOST_SIZE: u64 = 16;
 /// Why there is no table.
 #[derive(Clone, Copy, Debug, PartialEq, Eq, Error)]
 pub enum RunEnd {
-    /// A number is above its limit: 4, the size of the run, at most 16; 5, the commands of a pattern, at most 256, or the
-    /// `J` gates of a circuit, at most 60.
+    /// A number is above its limit: 4, the size of the run, at most 16; 5, the commands of a
+    /// pattern, at most 256, or the `J` gates of a circuit, at most 60.
     #[error("limit {which} is passed by {found}")]
     Limit { which: u8, found: u64 },
     /// Memory ran out.
@@ -23,7 +23,8 @@ pub enum RunEnd {
     Memory,
 }
 
-/// The first limit that is passed, where one is: by the size, or by the number of commands or gates.
+/// The first limit that is passed, where one is: by the size, or by the number of commands or
+/// gates.
 pub(crate) fn passed(size: u64, most: u64, count: u64) -> Option<RunEnd>
     ensures limit { MatchOption result (first_limit size most count ≡ None) (λ end. (which found : ℕ) →
         (end ≡ RunEnd.Limit which found) ↔ (first_limit size most count ≡ Some (which, found))) }

@@ -68,7 +68,8 @@ pub(crate) fn with_more(weight: usize, bit: bool, i: usize) -> usize
     }
 }
 
-/// The place that spells the last digits of a number on the listed qubits, the first by the most significant.
+/// The place that spells the last digits of a number on the listed qubits, the first by the most
+/// significant.
 pub(crate) fn place_spelled(live: &[u16], qubits: &[u16], y: usize) -> usize
     requires living { All (IsLiving live.now) qubits.now }
     requires few { length live.now ≤ 32 }

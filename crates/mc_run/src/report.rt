@@ -1,6 +1,7 @@
 //! Reports on all branches.
 
-ghost use Rattle.std.specs.Prelude.{◌≡◌, ◌↔◌, ℕ, ◌+◌, ◌<◌, ◌≤◌, Option, IfOk, OnOk, Err, IsTrue, None, Some, length, slice_index_or};
+ghost use Rattle.std.specs.Prelude.{◌≡◌, ◌↔◌, ℕ, ◌+◌, ◌<◌, ◌≤◌, Option, IfOk, OnOk, Err, IsTrue};
+ghost use Rattle.std.specs.Prelude.{None, Some, length, slice_index_or};
 ghost use Rattle.mc_model.specs.Steps.{is_permitted};
 ghost use Rattle.mc_pattern.specs.Patterns.{measured_count};
 ghost use Rattle.mc_run.specs.Limits.{all_limit};
@@ -18,7 +19,8 @@ use mc_pattern::Pattern;
 use std::alloc::Global;
 use std::marker::Model;
 
-/// The tables of all branches of a pattern, by rising outcomes, and the phase by which each is the first.
+/// The tables of all branches of a pattern, by rising outcomes, and the phase by which each is the
+/// first.
 #[derive(Drop)]
 pub struct Report<const H: usize> {
     tables: Vec<Table<H>>,
@@ -26,13 +28,16 @@ pub struct Report<const H: usize> {
 }
 
 impl<const H: usize> Model for Report<H> {
+    ghost use Rattle.std.specs.Prelude.{IsTrue};
+    ghost use Rattle.mc_model.specs.Steps.{is_permitted};
     ghost use Rattle.mc_run.specs.Reports.{ReportValue, IsReport};
 
     ghost Value = { ReportValue };
 
     ghost view = { λ r. record { tables = r.tables.items; phases = r.phases.items } };
 
-    ghost invariant = { λ r. IsReport (record { tables = r.tables.items; phases = r.phases.items }) };
+    ghost invariant = { λ r. IsTrue (is_permitted H)
+        × IsReport (record { tables = r.tables.items; phases = r.phases.items }) };
 }
 
 impl<const H: usize> Report<H> {
@@ -43,7 +48,8 @@ impl<const H: usize> Report<H> {
         self.tables.len()
     }
 
-    /// The table of a branch; the qubit that is measured first has the most significant bit of the number.
+    /// The table of a branch; the qubit that is measured first has the most significant bit of the
+    /// number.
     pub fn branch(&self, i: usize) -> &Table<H>
         requires { i < length self.now.tables }
         ensures { (d : TableValue) → slice_index_or self.now.tables i d ≡ result.now }
@@ -51,7 +57,8 @@ impl<const H: usize> Report<H> {
         &self.tables[i]
     }
 
-    /// The least `k` for which the branch is `w^k` times the first one, entry by entry; `None` where there is none.
+    /// The least `k` for which the branch is `w^k` times the first one, entry by entry; `None`
+    /// where there is none.
     pub fn phase(&self, i: usize) -> Option<u32>
         requires { i < length self.now.tables }
         ensures { (d : Option ℕ) → slice_index_or self.now.phases i d ≡ result }
@@ -109,10 +116,10 @@ fn all_branches<const H: usize>(alloc: Global, pattern: &Pattern<H>) -> Result<R
     Ok(Report { tables, phases })
 }
 
-/// The tables of all branches of a pattern, with their phases. `Limit` comes exactly where qubits, inputs and measured qubits
-/// together are more than 16, by the number 4, or else the commands are more than 256, by the number 5.
+/// The tables of all branches of a pattern, with their phases. `Limit` comes exactly where qubits,
+/// inputs and measured qubits together are more than 16, by the number 4, or else the commands are
+/// more than 256, by the number 5.
 pub fn run_all<const H: usize>(alloc: Global, pattern: &Pattern<H>) -> Result<Report<H>, RunEnd>
-    requires { IsTrue (is_permitted H) }
     ensures report { IfOk result (λ report. IsReportOf H pattern.now report) }
     ensures limit { (which found : ℕ) → (result ≡ Err (RunEnd.Limit which found)) ↔
         (all_limit pattern.now ≡ Some (which, found)) }

@@ -1,12 +1,12 @@
 //! The live qubits and the vector of their amplitudes.
 
 ghost use Rattle.std.specs.Prelude.{◌≡◌, ℕ, ◌+◌, ◌<◌, ◌≤◌, ◌^◌, [], ◌∷◌, IfOk, length, map};
-ghost use Rattle.mc_model.specs.Bits.{numbers_below};
+ghost use Rattle.mc_model.specs.Bits.{bits_of};
 ghost use Rattle.mc_model.specs.Amplitude.{start};
-ghost use Rattle.mc_signal.specs.Outcomes.{bits_of};
 ghost use Rattle.mc_run.specs.Exact.{exact, phases};
-ghost use Rattle.mc_run.specs.Settings.{spelled};
-ghost use Rattle.mc_run.specs.Sources.{entry, source, CanTake, IsLongFor, IsStepped, IsSmall, IsGrowth, Holds};
+ghost use Rattle.mc_run.specs.Settings.{spelled, numbers_below};
+ghost use Rattle.mc_run.specs.Sources.{entry, source, CanTake, IsLongFor, IsStepped, IsSmall};
+ghost use Rattle.mc_run.specs.Sources.{IsGrowth, Holds};
 
 use crate::place::{digit, two_to};
 use crate::step::Step;
@@ -15,7 +15,8 @@ use mc_model::Memory;
 use mc_ring::{PhaseRing, Ring};
 use std::alloc::Global;
 
-/// The live qubits, the first by the least significant digit of a place, and the entry at each place.
+/// The live qubits, the first by the least significant digit of a place, and the entry at each
+/// place.
 #[derive(Drop)]
 pub(crate) struct State<R> {
     pub(crate) live: Vec<u16>,

@@ -6,7 +6,8 @@ ghost use Rattle.mc_run.specs.Sources.{half_where, source, IsSmall};
 use crate::place::{digit, with_digit, with_more};
 use crate::source::Source;
 
-/// What a gate or a command does to each entry. Qubits are told by the weights of their digits in a place.
+/// What a gate or a command does to each entry. Qubits are told by the weights of their digits in a
+/// place.
 #[derive(Clone, Copy)]
 pub(crate) enum Step {
     Input(bool),

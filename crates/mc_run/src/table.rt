@@ -7,7 +7,8 @@ use crate::place::two_to;
 use mc_cyclo::Cyclo;
 use std::marker::Model;
 
-/// The amplitudes of a circuit or of one branch of a pattern, from at most 16 inputs and outputs together.
+/// The amplitudes of a circuit or of one branch of a pattern, from at most 16 inputs and outputs
+/// together.
 #[derive(Drop)]
 pub struct Table<const H: usize> {
     pub(crate) outputs: u16,
@@ -17,13 +18,15 @@ pub struct Table<const H: usize> {
 }
 
 impl<const H: usize> Model for Table<H> {
+    ghost use Rattle.std.specs.Prelude.{IsTrue};
+    ghost use Rattle.mc_model.specs.Steps.{is_permitted};
     ghost use Rattle.mc_run.specs.Tables.{TableValue, IsTable};
 
     ghost Value = { TableValue };
 
     ghost view = { λ t. record { outputs = t.outputs; inputs = t.inputs; halves = t.halves; entries = t.entries.items } };
 
-    ghost invariant = { λ t. IsTable
+    ghost invariant = { λ t. IsTrue (is_permitted H) × IsTable
         (record { outputs = t.outputs; inputs = t.inputs; halves = t.halves; entries = t.entries.items }) };
 }
 
@@ -51,8 +54,8 @@ impl<const H: usize> Table<H> {
         self.halves
     }
 
-    /// The entry, before it is scaled, at the bits of `y` on the outputs and of `b` on the inputs; the first output and the
-    /// first input have the most significant bit.
+    /// The entry, before it is scaled, at the bits of `y` on the outputs and of `b` on the inputs;
+    /// the first output and the first input have the most significant bit.
     pub fn at(&self, y: usize, b: usize) -> Cyclo<H>
         requires output { y < 2 ^ self.now.outputs }
         requires input { b < 2 ^ self.now.inputs }

@@ -175,7 +175,8 @@ fn runs_branches(rt: HostRuntime) -> Result<(), Fail> {
     Ok(())
 }
 
-/// The number of branches, and the phase of each of the first two whose table has the entries of `J` times its sign.
+/// The number of branches, and the phase of each of the first two whose table has the entries of
+/// `J` times its sign.
 fn phases_with(report: &Report<4>, signs: [i64; 2]) -> [Option<u32>; 2] {
     if report.branches() == 2
         && is_j(report.branch(0), signs[0])

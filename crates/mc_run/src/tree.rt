@@ -1,18 +1,19 @@
 //! All branches of a pattern, each command once for those that have not parted yet.
 
-ghost use Rattle.std.specs.Prelude.{◌≡◌, ℕ, ◌+◌, ◌*◌, ◌<◌, ◌≤◌, ◌^◌, [], ◌∷◌, IfOk, OnOk, IsTrue, MatchOption, ℤ, List, length, map};
+ghost use Rattle.std.specs.Prelude.{◌≡◌, ℕ, ◌+◌, ◌*◌, ◌<◌, ◌≤◌, ◌^◌, [], ◌∷◌, IfOk, OnOk, IsTrue};
+ghost use Rattle.std.specs.Prelude.{MatchOption, ℤ, List, length, map};
+ghost use Rattle.mc_model.specs.Bits.{bits_of};
 ghost use Rattle.mc_model.specs.Steps.{is_permitted};
 ghost use Rattle.mc_model.specs.Signals.{Signal};
-ghost use Rattle.mc_model.specs.Pattern.{Meas};
+ghost use Rattle.mc_model.specs.Pattern.{Meas, measured_order};
 ghost use Rattle.mc_model.specs.Ring.{ring};
 ghost use Rattle.mc_model.specs.Amplitude.{Amps, branch_map, pattern_scale};
 ghost use Rattle.mc_pattern.specs.Patterns.{measured_count};
 ghost use Rattle.mc_run.specs.Sources.{entry};
 ghost use Rattle.mc_run.specs.Tables.{IsTableOf};
-ghost use Rattle.mc_signal.specs.Outcomes.{bits_of};
 ghost use Rattle.mc_pattern.specs.Commands.{plain_command};
 ghost use Rattle.mc_run.specs.Exact.{exact};
-ghost use Rattle.mc_run.specs.Reports.{measured_order, outcomes_of};
+ghost use Rattle.mc_run.specs.Reports.{outcomes_of};
 ghost use Rattle.mc_run.specs.Branches.{CommandsLeft, AreColumns, AreAllColumns};
 
 use crate::branch::count_halves;

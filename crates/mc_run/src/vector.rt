@@ -2,7 +2,8 @@
 
 ghost use Rattle.std.specs.Prelude.{◌≡◌, ℕ, ◌+◌, ◌<◌, ◌≤◌, ◌^◌, true, IfOk, length, map};
 ghost use Rattle.mc_run.specs.Exact.{exact};
-ghost use Rattle.mc_run.specs.Sources.{entry, taken, source, ArePairs, IsLongFor, CanTake, IsStepped, IsSmall, IsSmallWeight};
+ghost use Rattle.mc_run.specs.Sources.{entry, taken, source, ArePairs, IsLongFor, CanTake};
+ghost use Rattle.mc_run.specs.Sources.{IsStepped, IsSmall, IsSmallWeight};
 
 use crate::place::{digit, with_more};
 use crate::source::Source;
@@ -157,7 +158,8 @@ pub(crate) fn swapped_where<R: PhaseRing>(entries: &mut [R], weight: usize, acts
     }
 }
 
-/// Makes of each pair that a digit tells apart its sum and its difference, the second entry turned before.
+/// Makes of each pair that a digit tells apart its sum and its difference, the second entry turned
+/// before.
 pub(crate) fn crossed<R: PhaseRing>(entries: &mut [R], weight: usize, steps: u32)
     requires permitted { R.IsPermitted }
     requires small { IsSmallWeight weight }

@@ -1,6 +1,6 @@
-pub mod Reducing
-mod Printing
+pub mod RootReduction
+mod WrittenLines
 mod Grids
 mod Phases
-mod Meant
-mod Setting
+mod PrintedMeaning
+mod OutcomesSet

@@ -1,5 +1,6 @@
 -- The texts of tables.
-use Rattle.std.specs.Prelude.{ℕ, ◌^◌, Bool, cond, ℤ, List, [], ◌∷◌, ◌++◌, map, codes, slice_index_or, Option, None, Some}
+use Rattle.std.specs.Prelude.{ℕ, ◌^◌, Bool, cond, ℤ, List, [], ◌∷◌, ◌++◌, map, codes}
+use Rattle.std.specs.Prelude.{slice_index_or, Option, None, Some}
 use Rattle.std.specs.List.{flat_map, list_any}
 use Rattle.std.specs.Option.{is_none}
 use Rattle.std.specs.Fmt.{decimal}

@@ -3,7 +3,7 @@ use Rattle.std.specs.Prelude.{ℕ, zero, suc, Bool, cond, ℤ, pos, List, map}
 use Rattle.std.specs.Cmp.Lexicographic.{pointwise}
 use Rattle.std.specs.Ordering.{int_eq}
 use Rattle.std.specs.Int.{int_div_euclid}
-use Rattle.mc_cyclo.specs.Roots.{root_times}
+use Rattle.mc_model.specs.Roots.{root_times}
 
 -- an element over a power of the root of two
 pub record Fraction : Type 0 where

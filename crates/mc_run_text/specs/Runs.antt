@@ -1,19 +1,20 @@
 -- The texts of runs, by what circuits and patterns mean.
-use Rattle.std.specs.Prelude.{ℕ, ◌*◌, ◌^◌, Bool, ℤ, List, [], ◌∷◌, ◌++◌, map, length, find, codes, Option}
+use Rattle.std.specs.Prelude.{ℕ, ◌*◌, ◌^◌, Bool, ℤ, List, [], ◌∷◌, ◌++◌, map, length, find, codes}
+use Rattle.std.specs.Prelude.{Option}
 use Rattle.std.specs.Cmp.Lexicographic.{pointwise}
 use Rattle.std.specs.List.{flat_map, list_any}
 use Rattle.std.specs.Option.{is_none}
 use Rattle.std.specs.Ordering.{int_eq}
 use Rattle.mc_write.specs.Text.{Line, text_of}
-use Rattle.mc_model.specs.Bits.{Bits}
+use Rattle.mc_model.specs.Bits.{Bits, bits_of}
 use Rattle.mc_model.specs.Numbers.{numbers_from}
 use Rattle.mc_model.specs.Ring.{Element, ring, rotations}
-use Rattle.mc_model.specs.Pattern.{Pattern, Circuit}
-use Rattle.mc_model.specs.Amplitude.{placed, branch_map, circuit_table, pattern_scale, circuit_scale}
-use Rattle.mc_signal.specs.Outcomes.{bits_of}
+use Rattle.mc_model.specs.Pattern.{Pattern, Circuit, measured_order}
+use Rattle.mc_model.specs.Amplitude.{placed, branch_map, circuit_table, pattern_scale}
+use Rattle.mc_model.specs.Amplitude.{circuit_scale}
 use Rattle.mc_pattern.specs.Patterns.{measured_count}
 use Rattle.mc_run.specs.Settings.{spelled}
-use Rattle.mc_run.specs.Reports.{measured_order, outcomes_of}
+use Rattle.mc_run.specs.Reports.{outcomes_of}
 use Rattle.mc_run_text.specs.Canonical.{bits_word, reduced_words, phase_word, alike_line}
 
 -- the amplitude at output bits and input bits, each spelled by a number

@@ -1,4 +1,5 @@
-//! The texts of tables of amplitudes: of one circuit, of one branch of a pattern, and of all of them.
+//! The texts of tables of amplitudes: of one circuit, of one branch of a pattern, and of all of
+//! them.
 #![tactic(auto)]
 
 mod bits;

@@ -1,10 +1,10 @@
 //! Printing tables.
 
-ghost use Rattle.std.specs.Prelude.{◌≡◌, ◌++◌, ◌∷◌, [], ◌<◌, ◌≤◌, ◌^◌, IfOk, OnOk, IsTrue, map, codes};
-ghost use Rattle.mc_model.specs.Steps.{is_permitted};
+ghost use Rattle.std.specs.Prelude.{◌≡◌, ◌++◌, ◌∷◌, [], ◌<◌, ◌≤◌, ◌^◌, IfOk, OnOk, map, codes};
 ghost use Rattle.mc_model.specs.Numbers.{numbers_from};
 ghost use Rattle.mc_write.specs.Text.{line_text, text_of, words_behind};
-ghost use Rattle.mc_run_text.specs.Canonical.{bits_word, reduced_words, amplitude_line, amplitude_lines, table_text, branch_text};
+ghost use Rattle.mc_run_text.specs.Canonical.{bits_word, reduced_words, amplitude_line};
+ghost use Rattle.mc_run_text.specs.Canonical.{amplitude_lines, table_text, branch_text};
 
 use crate::bits::{add_bits, add_digits};
 use mc_cyclo::{Amp, Cyclo};
@@ -51,7 +51,6 @@ fn print_amplitude<const H: usize>(
     y: usize,
     b: usize,
 ) -> Result<(), Memory>
-    requires permitted { IsTrue (is_permitted H) }
     requires output { y < 2 ^ table.now.outputs }
     requires input { b < 2 ^ table.now.inputs }
     ensures { OnOk result (text.new.items ≡ text.old.items ++ line_text (amplitude_line H table.now y b)) }
@@ -69,8 +68,7 @@ fn print_column<const H: usize>(
     table: &Table<H>,
     b: usize,
 ) -> Result<(), Memory>
-    requires permitted { IsTrue (is_permitted H) }
-    requires input { b < 2 ^ table.now.inputs }
+    requires { b < 2 ^ table.now.inputs }
     ensures { OnOk result (text.new.items ≡ text.old.items ++ text_of
         (map (λ y. amplitude_line H table.now y b) (numbers_from 0 (2 ^ table.now.outputs)))) }
 {
@@ -85,7 +83,6 @@ pub(crate) fn print_amplitudes<const H: usize>(
     text: &mut Vec<u8>,
     table: &Table<H>,
 ) -> Result<(), Memory>
-    requires { IsTrue (is_permitted H) }
     ensures { OnOk result (text.new.items ≡ text.old.items ++ text_of (amplitude_lines H table.now)) }
 {
     'inputs: for b in 0..two_to(table.inputs()) {
@@ -110,9 +107,9 @@ fn print_outcomes(text: &mut Vec<u8>, outcomes: &[bool]) -> Result<(), Memory>
     end_line(text)
 }
 
-/// The text of a table: a line for each amplitude, reduced, by rising input bits and for each of these by rising output bits.
+/// The text of a table: a line for each amplitude, reduced, by rising input bits and for each of
+/// these by rising output bits.
 pub fn print_table<const H: usize>(alloc: Global, table: &Table<H>) -> Result<Vec<u8>, Memory>
-    requires { IsTrue (is_permitted H) }
     ensures { IfOk result (λ text. text.items ≡ table_text H table.now) }
 {
     let mut text = Vec::new(alloc);
@@ -128,7 +125,6 @@ pub fn print_branch<const H: usize>(
     table: &Table<H>,
     outcomes: &[bool],
 ) -> Result<Vec<u8>, Memory>
-    requires { IsTrue (is_permitted H) }
     ensures { IfOk result (λ text. text.items ≡ branch_text H outcomes.now table.now) }
 {
     let mut text = Vec::new(alloc);

@@ -1,13 +1,14 @@
 //! Printing reports on all branches.
 
-ghost use Rattle.std.specs.Prelude.{◌≡◌, ℕ, ◌++◌, ◌∷◌, [], ◌<◌, ◌^◌, IfOk, OnOk, IsTrue, Option, length, codes};
+ghost use Rattle.std.specs.Prelude.{◌≡◌, ℕ, ◌++◌, ◌∷◌, [], ◌<◌, ◌^◌, IfOk, OnOk, Option, length};
+ghost use Rattle.std.specs.Prelude.{codes};
 ghost use Rattle.std.specs.List.{flat_map};
-ghost use Rattle.mc_model.specs.Steps.{is_permitted};
 ghost use Rattle.mc_model.specs.Numbers.{numbers_from};
 ghost use Rattle.mc_run.specs.Settings.{spelled};
 ghost use Rattle.mc_run.specs.Tables.{IsTable};
 ghost use Rattle.mc_write.specs.Text.{line_text, text_of};
-ghost use Rattle.mc_run_text.specs.Canonical.{bits_word, phase_word, table_at, branch_lines, is_any_apart, alike_line, report_text};
+ghost use Rattle.mc_run_text.specs.Canonical.{bits_word, phase_word, table_at, branch_lines};
+ghost use Rattle.mc_run_text.specs.Canonical.{is_any_apart, alike_line, report_text};
 
 use crate::bits::add_digits;
 use crate::print::{print_amplitudes, print_end};
@@ -58,7 +59,6 @@ fn print_one<const H: usize>(
     measured: u16,
     number: usize,
 ) -> Result<(), Memory>
-    requires permitted { IsTrue (is_permitted H) }
     requires few { measured < 64 }
     requires within { number < length report.now.tables }
     ensures lines { OnOk result (text.new.items ≡
@@ -76,8 +76,7 @@ fn print_branches<const H: usize>(
     report: &Report<H>,
     measured: u16,
 ) -> Result<(), Memory>
-    requires permitted { IsTrue (is_permitted H) }
-    requires count { length report.now.tables ≡ 2 ^ measured }
+    requires { length report.now.tables ≡ 2 ^ measured }
     ensures lines { OnOk result (text.new.items ≡ text.old.items ++ text_of
         (flat_map (branch_lines H measured report.now) (numbers_from 0 (2 ^ measured)))) }
     ensures long { OnOk result ((i : ℕ) → i < length report.now.tables → IsTable (table_at report.now i)) }
@@ -112,15 +111,14 @@ fn print_alike(text: &mut Vec<u8>, is_apart: bool) -> Result<(), Memory>
     end_line(text)
 }
 
-/// The text of a report on all branches of a pattern with so many measured qubits: for each branch its outcomes, its phase and
-/// its amplitudes, then whether all are alike.
+/// The text of a report on all branches of a pattern with so many measured qubits: for each branch
+/// its outcomes, its phase and its amplitudes, then whether all are alike.
 pub fn print_report<const H: usize>(
     alloc: Global,
     report: &Report<H>,
     measured: u16,
 ) -> Result<Vec<u8>, Memory>
-    requires permitted { IsTrue (is_permitted H) }
-    requires count { length report.now.tables ≡ 2 ^ measured }
+    requires { length report.now.tables ≡ 2 ^ measured }
     ensures text { IfOk result (λ text. text.items ≡ report_text H measured report.now) }
     ensures long { IfOk result (λ text. (i : ℕ) → i < length report.now.tables → IsTable (table_at report.now i)) }
 {

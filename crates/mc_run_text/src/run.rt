@@ -1,7 +1,7 @@
 //! Runs and their texts.
 
-ghost use Rattle.std.specs.Prelude.{◌≡◌, ◌↔◌, ℕ, IfOk, IfSome, OnOk, Err, IsTrue, MatchOption, None, Some, length};
-ghost use Rattle.mc_model.specs.Steps.{is_permitted};
+ghost use Rattle.std.specs.Prelude.{◌≡◌, ◌↔◌, ℕ, IfOk, IfSome, OnOk, Err, MatchOption, None, Some};
+ghost use Rattle.std.specs.Prelude.{length};
 ghost use Rattle.mc_pattern.specs.Patterns.{measured_count};
 ghost use Rattle.mc_run.specs.Limits.{circuit_limit, branch_limit, all_limit};
 ghost use Rattle.mc_run_text.specs.Runs.{circuit_run, branch_run, all_runs};
@@ -15,14 +15,13 @@ use mc_pattern::Pattern;
 use mc_run::{RunEnd, run_all, run_branch, run_circuit};
 use std::alloc::Global;
 
-/// The text of the table of a circuit: the amplitudes of its meaning (Danos, Kashefi and Panangaden 2007), reduced. `Limit`
-/// comes exactly where wires and inputs together are more than 16, by the number 4, or else the `J` gates are more than 60,
-/// by the number 5.
+/// The text of the table of a circuit: the amplitudes of its meaning (Danos, Kashefi and Panangaden
+/// 2007), reduced. `Limit` comes exactly where wires and inputs together are more than 16, by the
+/// number 4, or else the `J` gates are more than 60, by the number 5.
 pub fn run_circuit_text<const H: usize>(
     alloc: Global,
     circuit: &Circuit<H>,
 ) -> Result<Vec<u8>, RunEnd>
-    requires { IsTrue (is_permitted H) }
     ensures text { IfOk result (λ text. text.items ≡ circuit_run H circuit.now) }
     ensures limit { (which found : ℕ) → (result ≡ Err (RunEnd.Limit which found)) ↔
         (circuit_limit circuit.now ≡ Some (which, found)) }
@@ -73,7 +72,6 @@ fn branch_text<const H: usize>(
     pattern: &Pattern<H>,
     outcomes: &[bool],
 ) -> Result<Vec<u8>, RunEnd>
-    requires permitted { IsTrue (is_permitted H) }
     requires outcomes { length outcomes.now ≡ measured_count pattern.now }
     ensures text { IfOk result (λ text. text.items ≡ branch_run H pattern.now outcomes.now) }
     ensures limit { (which found : ℕ) → (result ≡ Err (RunEnd.Limit which found)) →
@@ -92,15 +90,15 @@ fn branch_text<const H: usize>(
     }
 }
 
-/// The text of the table of a branch of a pattern, by the outcomes in measuring order: the amplitudes of the branch's map
-/// (Danos, Kashefi and Panangaden 2007), reduced. `Limit` comes exactly where qubits and inputs together are more than 16,
-/// by the number 4, or else the commands are more than 256, by the number 5.
+/// The text of the table of a branch of a pattern, by the outcomes in measuring order: the
+/// amplitudes of the branch's map (Danos, Kashefi and Panangaden 2007), reduced. `Limit` comes
+/// exactly where qubits and inputs together are more than 16, by the number 4, or else the commands
+/// are more than 256, by the number 5.
 pub fn run_branch_text<const H: usize>(
     alloc: Global,
     pattern: &Pattern<H>,
     outcomes: &[bool],
 ) -> Result<Vec<u8>, RunEnd>
-    requires permitted { IsTrue (is_permitted H) }
     requires outcomes { length outcomes.now ≡ measured_count pattern.now }
     ensures text { IfOk result (λ text. text.items ≡ branch_run H pattern.now outcomes.now) }
     ensures limit { (which found : ℕ) → (result ≡ Err (RunEnd.Limit which found)) ↔
@@ -114,12 +112,12 @@ pub fn run_branch_text<const H: usize>(
     branch_text(alloc, pattern, outcomes)
 }
 
-/// The text of the report on all branches of a pattern: of each its outcomes, the least phase from the first branch, and the
-/// amplitudes of its map (Danos, Kashefi and Panangaden 2007), reduced; then whether all are alike. `Limit` comes exactly
-/// where qubits, inputs and measured qubits together are more than 16, by the number 4, or else the commands are more than
-/// 256, by the number 5.
+/// The text of the report on all branches of a pattern: of each its outcomes, the least phase from
+/// the first branch, and the amplitudes of its map (Danos, Kashefi and Panangaden 2007), reduced;
+/// then whether all are alike. `Limit` comes exactly where qubits, inputs and measured qubits
+/// together are more than 16, by the number 4, or else the commands are more than 256, by the
+/// number 5.
 pub fn run_all_text<const H: usize>(alloc: Global, pattern: &Pattern<H>) -> Result<Vec<u8>, RunEnd>
-    requires { IsTrue (is_permitted H) }
     ensures text { IfOk result (λ text. text.items ≡ all_runs H pattern.now) }
     ensures limit { (which found : ℕ) → (result ≡ Err (RunEnd.Limit which found)) ↔
         (all_limit pattern.now ≡ Some (which, found)) }

@@ -228,6 +228,7 @@ shifted_standard law half p q h form =
     let size = length-shifted (change_of p.commands) p.commands q.commands form.commands in
     record {
       pattern = record {
+        permitted = h.pattern.permitted;
         valid = (shifted_forms_valid p q h.pattern.valid form).valid;
         few = omega arith;
         typed = form_typed half p q h.pattern.valid h.pattern.typed form;

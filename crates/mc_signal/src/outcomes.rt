@@ -1,8 +1,7 @@
 //! Outcomes of measurements.
 
 ghost use Rattle.std.specs.Prelude.{◌≡◌, ◌<◌, IfOk, false, length, replicate, slice_set};
-ghost use Rattle.mc_model.specs.Bits.{replaced};
-ghost use Rattle.mc_signal.specs.Outcomes.{bits_of};
+ghost use Rattle.mc_model.specs.Bits.{replaced, bits_of};
 
 use mc_model::Memory;
 use std::alloc::Global;

@@ -15,6 +15,7 @@ standard_pattern half p h =
     let s = standardised p h.valid in
     record {
       pattern = record {
+        permitted = h.permitted;
         valid = s.valid;
         few = few_standard p h.valid;
         typed = typed_standard half p h.typed;

@@ -7,10 +7,9 @@ use mathlib.Core.Path.{subst}
 use mathlib.Core.Logic.{inl, inr}
 use Rattle.mc_model.specs.Numbers.{is_member}
 use Rattle.mc_model.specs.Bits.{Bits, replaced}
-use Rattle.mc_model.specs.Pattern.{Command, Prep, Ent, Meas, FixX, FixZ, Pattern}
+use Rattle.mc_model.specs.Pattern.{Command, Prep, Ent, Meas, FixX, FixZ, Pattern, measured_order}
 use Rattle.mc_model.specs.Valid.{AllDone, IsValidPattern, measured}
-use Rattle.mc_model.specs.Shift.{ChangeRow, change_of, IsShifted, IsShiftedForm}
-use Rattle.mc_pattern_text.specs.ChangeRows.{measured_order, qubits_of, AreEarlier, IsChangeOf}
+use Rattle.mc_model.specs.Shift.{ChangeRow, change_of, IsShifted, IsShiftedForm, qubits_of, AreEarlier, IsChangeOf}
 use Rattle.mc_shift.proofs.NewOutcomes.{RowsFit, rows_fit}
 
 done_at : (done : Bits) (qs : List ℕ) → AllDone done qs → (q : ℕ) → is_member qs q ≡ true →

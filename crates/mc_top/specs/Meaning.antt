@@ -3,7 +3,7 @@ use Rattle.std.specs.Prelude.{◌≡◌, ℕ, List, Bool, Option, None, Some, �
 use Rattle.mc_model.specs.Bits.{Bits}
 use Rattle.mc_model.specs.Ring.{ring}
 use Rattle.mc_model.specs.Pattern.{Circuit, Pattern}
-use Rattle.mc_model.specs.Amplitude.{branch_map, circuit_table}
+use Rattle.mc_model.specs.Amplitude.{HasTableAtEachBranch}
 use Rattle.mc_model.specs.Alike.{AlikeBranches}
 use Rattle.mc_model.specs.Translation.{translation}
 use Rattle.mc_model.specs.StandardForm.{standard_form}
@@ -13,13 +13,8 @@ use Rattle.mc_top.specs.Tasks.{Asked, translate, print, standard, shift, run, ru
 use Rattle.mc_top.specs.Documents.{Spelled, circuit, pattern, spelled}
 use Rattle.mc_top.specs.Serve.{source_of}
 
--- at every outcome list the branch map of a circuit's translation is the circuit's table
-abbrev pub HasTableAtEachBranch : Circuit → Type 0
-HasTableAtEachBranch c = (o : Bits) (y : List Bool) (b : Bits) →
-    branch_map (ring 4) (translation 4 c) o y b ≡ circuit_table (ring 4) c y b
-
 abbrev pub IsTranslated : Spelled → Type 0
-IsTranslated (circuit c) = HasTableAtEachBranch c
+IsTranslated (circuit c) = HasTableAtEachBranch (ring 4) c (translation 4 c)
 IsTranslated (pattern p change) = ⊤
 
 -- at every outcome list a pattern and its standard form have branch maps that are alike

@@ -1,12 +1,13 @@
 -- What the bytes that come in call for.
-use Rattle.std.specs.Prelude.{◌≡◌, ◌≢◌, ◌⊎◌, ℕ, ◌+◌, true, false, List, [], ◌++◌, length, nat_eq, nat_lt, Bool, if◌then◌else◌, Option, None, Some, Result, Ok, Err}
+use Rattle.std.specs.Prelude.{◌≡◌, ◌≢◌, ◌⊎◌, ℕ, ◌+◌, true, false, List, [], ◌++◌, length, nat_eq, nat_lt, Bool, if◌then◌else◌, Option, None, Some, Result, Ok, Err, suc}
 use Rattle.std.specs.Option.{option_map}
 use Rattle.std.specs.declared.vec.Vec.{Vec}
 use Rattle.std.specs.declared.alloc.Global.{Global}
+use Rattle.mc_model.specs.Limits.{most_bytes, most_qubits}
 use Rattle.mc_model.specs.Pattern.{Pattern, wires}
 use Rattle.mc_model.specs.Shift.{ChangeRow, change_of}
 use Rattle.mc_model.specs.Amplitude.{j_count}
-use Rattle.mc_model.specs.Translation.{translation}
+use Rattle.mc_model.specs.Translation.{translation, qubit_count}
 use Rattle.mc_model.specs.StandardForm.{standard_form}
 use Rattle.mc_io.specs.Told.{AppendsWhereTold, AppendsPrefix}
 use Rattle.mc_io.specs.Faults.{Rose}
@@ -52,9 +53,7 @@ source_of (pattern p change) = p
 -- a translation has at most 256 qubits
 abbrev pub source_limit : Spelled → Option TextEnd
 source_limit (circuit c) =
-    if nat_lt 256 (wires c + j_count c.gates)
-    then Some (end.Limit 2 (wires c + j_count c.gates))
-    else None
+    if nat_lt most_qubits (qubit_count c) then Some (end.Limit 2 (qubit_count c)) else None
 source_limit (pattern p change) = None
 
 -- an end is that of a passed limit; want of memory says nothing
@@ -116,13 +115,9 @@ due_for asked text =
     due_unless (answered (first_in_text 4 (takes_of asked) text))
     (due_spelled asked (first_place text) (spelled 4 text))
 
--- the most bytes of a text
-abbrev pub most_bytes : ℕ
-most_bytes = 8388608
-
 abbrev pub due_of : Asked → List ℕ → Due
 due_of asked input =
-    if nat_lt most_bytes (length input) then refusal (end.Limit 1 8388609) else due_for asked input
+    if nat_lt most_bytes (length input) then refusal (end.Limit 1 (suc most_bytes)) else due_for asked input
 
 -- the status that is due
 abbrev pub status_of : Due → Status

@@ -1,8 +1,7 @@
 -- The document of the code as that of the definitions.
 use Rattle.std.specs.Prelude.{ℕ, List, Option, None, Some, ⊤}
 use Rattle.mc_model.specs.Pattern as plain
-use Rattle.mc_model.specs.Shift.{ChangeRow}
-use Rattle.mc_pattern_text.specs.ChangeRows.{IsChangeOf}
+use Rattle.mc_model.specs.Shift.{ChangeRow, IsChangeOf}
 use Rattle.mc_top.specs.declared.document.Document.{Document}
 use Rattle.mc_top.specs.declared.document.Document.TheVariants.{Circuit, Pattern}
 use Rattle.mc_top.specs.Documents.{Spelled, circuit, pattern}

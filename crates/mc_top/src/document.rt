@@ -2,6 +2,7 @@
 
 ghost use Rattle.std.specs.Prelude.{◌≡◌, ◌≤◌, length, None, Some, OnOk, IfOk, IfErr, IsTrue};
 ghost use Rattle.mc_lex.specs.declared.kind.Kind.TheVariants as kind;
+ghost use Rattle.mc_model.specs.Limits.{most_bytes};
 ghost use Rattle.mc_model.specs.Steps.{is_permitted};
 ghost use Rattle.mc_text.specs.Stops.{IsEnd};
 ghost use Rattle.mc_top.specs.Documents.{StartsDocument, first_behind, first_behind_pattern, first_in_kind, first_in_text};
@@ -30,7 +31,7 @@ pub fn read_document<const H: usize>(
     text: &[u8],
     takes: Takes,
 ) -> Result<Document<H>, TextEnd>
-    requires short { length text.now ≤ 8_388_608 }
+    requires short { length text.now ≤ most_bytes }
     requires permitted { IsTrue (is_permitted H) }
     ensures clean { OnOk result (first_in_text H takes text.now ≡ None) }
     ensures value { IfOk result (λ document. spelled H text.now ≡ Some (plain_document document)) }
@@ -169,7 +170,7 @@ fn read_nothing(words: &mut Words<'_>) -> Result<(), TextEnd>
 
 /// The place of the first word of a text, or its end place where there is none.
 pub(crate) fn first_place(text: &[u8]) -> (u32, u32)
-    requires { length text.now ≤ 8_388_608 }
+    requires { length text.now ≤ most_bytes }
     ensures { result ≡ first_place text.now }
 {
     let mut words = Words::new(text);

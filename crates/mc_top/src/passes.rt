@@ -1,10 +1,10 @@
 //! Documents and what the passes make of them, as canonical texts.
 
 ghost use Rattle.std.specs.Prelude.{◌≡◌, ◌++◌, None, IfOk, IfErr, OnOk};
+ghost use Rattle.mc_model.specs.Shift.{IsChangeOf};
 ghost use Rattle.mc_model.specs.StandardForm.{standard_form};
 ghost use Rattle.mc_pattern_text.specs.Canonical.{pattern_text};
 ghost use Rattle.mc_pattern_text.specs.ChangeCanonical.{change_text};
-ghost use Rattle.mc_pattern_text.specs.ChangeRows.{IsChangeOf};
 ghost use Rattle.mc_shift.specs.Shifted.{shifted_form};
 ghost use Rattle.mc_top.specs.Serve.{IsLimit, change_behind, document_text, shifted_text, source_limit, source_of};
 ghost use Rattle.mc_top.specs.Meaning.{IsShiftedBy, IsStandardised, IsTranslated};

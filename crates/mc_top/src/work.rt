@@ -1,6 +1,7 @@
 //! The work between reading and writing.
 
 ghost use Rattle.std.specs.Prelude.{◌≡◌, ◌≤◌, length, Ok, OnOk, IfOk, IfErr};
+ghost use Rattle.mc_model.specs.Limits.{most_bytes};
 ghost use Rattle.mc_model.specs.StandardForm.{standard_form};
 ghost use Rattle.mc_pattern_text.specs.Canonical.{pattern_text};
 ghost use Rattle.mc_top.specs.Serve.{Gives, due_document, due_for, due_from, shifted_text};
@@ -19,7 +20,7 @@ use std::alloc::Global;
 
 /// The answer of a task to a text.
 pub(crate) fn answer(alloc: Global, task: Task<'_>, text: &[u8]) -> Result<Vec<u8>, TextEnd>
-    requires { length text.now ≤ 8_388_608 }
+    requires { length text.now ≤ most_bytes }
     ensures due { Gives result (due_for (plain_task task.entry) text.now) }
     ensures meaning { OnOk result (Means (plain_task task.entry) text.now) }
 {

@@ -1,12 +1,14 @@
 -- The commands of a `J` may stand where they are added.
-use Rattle.std.proofs.Common.{◌≡◌, ℕ, ◌+◌, ◌<◌, ◌≤◌, length, length-append, false, true, List, [], ◌∷◌, ◌++◌, sym, ◌∙◌, ap, arith}
+use Rattle.std.proofs.Common.{◌≡◌, ℕ, ◌+◌, ◌<◌, ◌≤◌, length, length-append, false, true, List, []}
+use Rattle.std.proofs.Common.{◌∷◌, ◌++◌, sym, ◌∙◌, ap, arith}
 use Rattle.mc_model.specs.Bits.{Bits}
 use Rattle.mc_model.specs.Signals.{Signal, no_signal, signal_of}
 use Rattle.mc_model.specs.Pattern.{Command, Prep, Ent, Meas, FixX}
 use Rattle.mc_model.specs.Valid.{prepared, measured, IsLive, FitsBehind}
 use Rattle.mc_model.proofs.ValidLemmas.{next_measured}
 use Rattle.mc_model.proofs.BitLemmas.{replaced_same, replaced_other}
-use Rattle.mc_translate.proofs.Standing.{prepared-prep, measured-prep, prepared-ent, measured-ent, prepared-meas}
+use Rattle.mc_translate.proofs.WireQubits.{prepared-prep, measured-prep, prepared-ent, measured-ent}
+use Rattle.mc_translate.proofs.WireQubits.{prepared-meas}
 
 -- two qubits that may be acted on
 record AreLive (inputs q r : ℕ) (cs : List Command) : Type 0 where

@@ -1,10 +1,10 @@
 pub mod TranslationLaw
 pub mod FreeNames
-pub mod Standing
+pub mod WireQubits
 pub mod Fits
-pub mod Going
+pub mod GatesLeft
 pub mod Outputs
-pub mod Counting
+pub mod JCounts
 pub mod FirstWires
 pub mod TranslationFlow
 pub mod ValidTranslation

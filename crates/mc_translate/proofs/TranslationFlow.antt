@@ -1,7 +1,10 @@
 -- The causal flow of the graph of a translation.
-use Rattle.std.proofs.Common.{◌≡◌, ◌≢◌, ℕ, zero, suc, ◌+◌, ◌-◌, ◌<◌, ◌≤◌, Bool, true, false, cond, ◌&&◌, ◌||◌, not, List, [], ◌∷◌, ◌++◌, length, map, refl, sym, ◌∙◌, ap, ap₂, append_assoc, append-nil, length-append, arith}
+use Rattle.std.proofs.Common.{◌≡◌, ◌≢◌, ℕ, zero, suc, ◌+◌, ◌-◌, ◌<◌, ◌≤◌, Bool, true, false, cond}
+use Rattle.std.proofs.Common.{◌&&◌, ◌||◌, not, List, [], ◌∷◌, ◌++◌, length, map, refl, sym, ◌∙◌, ap}
+use Rattle.std.proofs.Common.{ap₂, append_assoc, append-nil, length-append, arith}
 use Rattle.std.specs.Prelude.{nat_eq}
-use Rattle.std.proofs.lemmas.Bool.{eq-eqb, ne_eqb, eqb-true, le-ltb, not-true, not-false, or_parts, cases_Bool, cases_eq, true≢false, false≢true}
+use Rattle.std.proofs.lemmas.Bool.{eq-eqb, ne_eqb, eqb-true, le-ltb, not-true, not-false, or_parts}
+use Rattle.std.proofs.lemmas.Bool.{cases_Bool, cases_eq, true≢false, false≢true}
 use mathlib.Core.Path.{subst}
 use mathlib.Core.Logic.{inl, inr}
 use Rattle.mc_model.specs.Names.{Name, with_fresh, fresh_name}
@@ -19,7 +22,8 @@ use Rattle.mc_model.proofs.Refutation.{odd_of_single}
 use Rattle.mc_translate.specs.Steps.{j_commands, StandApart, IsStanding}
 use Rattle.mc_model.proofs.NumberLists.{member_once}
 use Rattle.mc_model.proofs.PairLemmas.{pair_ends, is_edge-comm, is_edge-append, joins-pairs}
-use Rattle.mc_translate.proofs.Standing.{moved_same, moved_other, moved_apart, numbers_apart, standing_start, standing_cz, standing_j}
+use Rattle.mc_translate.proofs.WireQubits.{moved_same, moved_other, moved_apart, numbers_apart}
+use Rattle.mc_translate.proofs.WireQubits.{standing_start, standing_cz, standing_j}
 use Rattle.mc_translate.proofs.Outputs.{outputs_listed}
 
 -- ---- the next qubit

@@ -1,15 +1,17 @@
 -- The amplitudes after a translated list of gates are those after the gates.
-use Rattle.std.proofs.Common.{◌≡◌, ℕ, suc, ◌+◌, ◌<◌, Bool, true, false, ◌&&◌, ◌-◌, map, List, [], ◌∷◌, refl, sym, ◌∙◌, ap, ap₂, arith}
+use Rattle.std.proofs.Common.{◌≡◌, ℕ, suc, ◌+◌, ◌<◌, Bool, true, false, ◌&&◌, ◌-◌, map, List, []}
+use Rattle.std.proofs.Common.{◌∷◌, refl, sym, ◌∙◌, ap, ap₂, arith}
 use Rattle.std.proofs.lemmas.Bool.{cases_eq}
 use mathlib.Core.Logic.{inl, inr}
 use Rattle.mc_model.specs.Phase.{PhaseOps, PhaseLaws, turn, sign, negated, measured_angle}
 use Rattle.mc_model.specs.Bits.{◌⊻◌, Bits, replaced, parity}
 use Rattle.mc_model.specs.Signals.{value, no_signal, signal_of}
 use Rattle.mc_model.specs.Pattern.{Command, Prep, Ent, Meas, FixX, Gate, J, CZ, Circuit, wires}
-use Rattle.mc_model.specs.Amplitude.{Amps, act, after, act_gate, after_gates, start, placed, amp, branch_map, circuit_table}
+use Rattle.mc_model.specs.Amplitude.{Amps, act, after, act_gate, after_gates, start, placed, amp}
+use Rattle.mc_model.specs.Amplitude.{branch_map, circuit_table}
 use Rattle.mc_model.specs.Translation.{moved, translated, last_qubits, preparations, translation}
 use Rattle.mc_translate.specs.Steps.{StandApart}
-use Rattle.mc_translate.proofs.Standing.{moved_same, moved_other, moved_apart, numbers_apart}
+use Rattle.mc_translate.proofs.WireQubits.{moved_same, moved_other, moved_apart, numbers_apart}
 use Rattle.mc_model.specs.Valid.{GatesFit, IsValidCircuit}
 use Rattle.mc_model.proofs.AmplitudeLemmas.{after-append, after-preparations, start_same}
 use Rattle.std.specs.List.{AllByRecursion}

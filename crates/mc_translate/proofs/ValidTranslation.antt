@@ -1,21 +1,24 @@
 -- A translation is a valid pattern.
-use Rattle.std.proofs.Common.{◌≡◌, ℕ, zero, suc, ◌+◌, ◌-◌, ◌<◌, ◌≤◌, false, not, List, [], ◌∷◌, ◌++◌, length, map, refl, sym, ◌∙◌, append_assoc, append-nil, arith}
+use Rattle.std.proofs.Common.{◌≡◌, ℕ, zero, suc, ◌+◌, ◌-◌, ◌<◌, ◌≤◌, false, not, List, [], ◌∷◌}
+use Rattle.std.proofs.Common.{◌++◌, length, map, refl, sym, ◌∙◌, append_assoc, append-nil, arith}
 use Rattle.std.specs.List.{list_any}
 use mathlib.Core.Path.{subst}
 use Rattle.mc_model.specs.Names.{with_fresh}
 use Rattle.mc_model.specs.Numbers.{ListsOnce}
 use Rattle.mc_model.specs.Phase.{negated}
 use Rattle.mc_model.specs.Signals.{no_signal, signal_of}
-use Rattle.mc_model.specs.Pattern.{Command, Prep, Ent, Meas, FixX, Gate, J, CZ, Circuit, wires, has_constant}
+use Rattle.mc_model.specs.Pattern.{Command, Prep, Ent, Meas, FixX, Gate, J, CZ, Circuit, wires}
+use Rattle.mc_model.specs.Pattern.{has_constant}
 use Rattle.mc_model.specs.Amplitude.{j_count}
-use Rattle.mc_model.specs.Valid.{measured, IsLive, IsValid, GatesFit, IsValidPattern, IsValidCircuit}
+use Rattle.mc_model.specs.Valid.{measured, IsLive, IsValid, GatesFit, IsValidPattern}
+use Rattle.mc_model.specs.Valid.{IsValidCircuit}
 use Rattle.mc_model.specs.Translation.{moved, translated, last_qubits, preparations, translation}
+use Rattle.mc_model.specs.Translation.{qubit_count}
 use Rattle.mc_model.proofs.PreparationLemmas.{prepared-preparations}
 use Rattle.mc_model.proofs.ValidLemmas.{valid_with, nothing_valid}
 use Rattle.mc_names.proofs.FreshNames.{with_fresh_names}
-use Rattle.mc_translate.specs.Qubits.{qubit_count}
 use Rattle.mc_translate.specs.Steps.{j_commands, IsStanding}
-use Rattle.mc_translate.proofs.Standing.{standing_start, standing_cz, standing_j}
+use Rattle.mc_translate.proofs.WireQubits.{standing_start, standing_cz, standing_j}
 use Rattle.mc_translate.proofs.Fits.{ent_fits, meas_fits, fix_fits}
 use Rattle.mc_translate.proofs.FirstWires.{preparation_next}
 use Rattle.mc_translate.proofs.Outputs.{outputs_listed}

@@ -3,10 +3,6 @@ use Rattle.std.specs.Prelude.{ℕ, ◌+◌, Bool, true, false}
 use Rattle.mc_model.specs.Pattern.{Circuit, Gate, J, CZ, wires}
 use Rattle.mc_model.specs.Amplitude.{j_count}
 
--- the wires, and a fresh qubit for each `J`
-abbrev pub qubit_count : Circuit → ℕ
-qubit_count c = wires c + j_count c.gates
-
 abbrev pub is_j : Gate → Bool
 is_j (J v a) = true
 is_j (CZ v u) = false

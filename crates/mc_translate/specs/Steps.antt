@@ -1,5 +1,7 @@
 -- The translation gate by gate, where `at` lists for each wire the qubit that stands for it.
-use Rattle.std.specs.Prelude.{◌≡◌, ℕ, ◌+◌, ◌<◌, ◌≤◌, false, List, [], ◌∷◌, ◌++◌, length, slice_index_or, slice_set}
+use Rattle.std.specs.Prelude.{◌≡◌, ℕ, ◌+◌, ◌<◌, ◌≤◌, false, List, [], ◌∷◌, ◌++◌, length}
+use Rattle.std.specs.Prelude.{slice_index_or, slice_set}
+use Rattle.mc_model.specs.Limits.{most_qubits, most_commands}
 use Rattle.mc_model.specs.Names.{fresh_name}
 use Rattle.mc_model.specs.Phase.{negated}
 use Rattle.mc_model.specs.Signals.{no_signal, signal_of}
@@ -49,8 +51,8 @@ pub record IsStanding (wires next : ℕ) (at : ℕ → ℕ) (inputs : ℕ) (cs :
 
 -- so many fresh qubits and commands a gate takes at most
 abbrev pub HasRoom : Gate → Pattern → Type 0
-HasRoom (J v a) p = (length p.names < 256) × (length p.commands + 4 ≤ 262144)
-HasRoom (CZ v u) p = length p.commands + 4 ≤ 262144
+HasRoom (J v a) p = (length p.names < most_qubits) × (length p.commands + 4 ≤ most_commands)
+HasRoom (CZ v u) p = length p.commands + 4 ≤ most_commands
 
 -- a gate may come behind a pattern so far
 pub record CanStep (at : List ℕ) (gate : Gate) (p : Pattern) : Type 0 where

@@ -1,6 +1,7 @@
 //! Gates as commands.
 
 ghost use Rattle.std.specs.Prelude.{◌≡◌, ◌+◌, ◌<◌, ◌≤◌, false, IfOk, OnOk, length};
+ghost use Rattle.mc_model.specs.Limits.{most_qubits, most_commands};
 ghost use Rattle.mc_model.specs.Signals.{signal_of};
 ghost use Rattle.mc_model.specs.Valid.{IsLive, prepared, measured};
 ghost use Rattle.mc_circuit.specs.Gates.{plain_gate};
@@ -23,7 +24,8 @@ fn signal_of(alloc: Global, q: u16) -> Result<Signal, Memory>
     Ok(signal)
 }
 
-/// Adds the commands of a `J` on a qubit, and gives the fresh qubit that stands for its wire from then on.
+/// Adds the commands of a `J` on a qubit, and gives the fresh qubit that stands for its wire from
+/// then on.
 fn push_j<const H: usize>(
     alloc: Global,
     builder: &mut Builder<H>,
@@ -32,8 +34,8 @@ fn push_j<const H: usize>(
 ) -> Result<u16, Memory>
     requires qubit { IsLive builder.old.inputs builder.old.commands q }
     requires unborn { measured builder.old.commands (length builder.old.names) ≡ false }
-    requires names { length builder.old.names < 256 }
-    requires commands { length builder.old.commands + 4 ≤ 262_144 }
+    requires names { length builder.old.names < most_qubits }
+    requires commands { length builder.old.commands + 4 ≤ most_commands }
     ensures fresh { IfOk result (λ next. next ≡ length builder.old.names) }
     ensures added { OnOk result (builder.new ≡ with_j H q angle.entry builder.old) }
 {

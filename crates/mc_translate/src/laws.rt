@@ -1,6 +1,8 @@
 //! What is proved of translations (Danos, Kashefi and Panangaden 2007).
 
-ghost use Rattle.mc_translate.specs.Laws.{TranslationKeepsTable, TranslationScale, TranslationsAreValid, TranslationsHaveCausalFlows, TranslationsHaveFlows, TranslationsHaveNoConstants};
+ghost use Rattle.mc_translate.specs.Laws.{TranslationCounts, TranslationKeepsTable, TranslationScale};
+ghost use Rattle.mc_translate.specs.Laws.{TranslationsAreValid, TranslationsHaveCausalFlows};
+ghost use Rattle.mc_translate.specs.Laws.{TranslationsHaveFlows, TranslationsHaveNoConstants};
 
 /// Whatever the outcomes, the branch map of a translated circuit is the circuit's table.
 pub fn translation_keeps_table()
@@ -30,4 +32,10 @@ pub fn translations_have_no_constants()
 /// A translation has the preparations and `J` gates of the circuit, and a measurement for each `J`.
 pub fn translation_has_scale()
     ensures { TranslationScale }
+{}
+
+/// A translation prepares a qubit for each wire that is no input and for each `J`, and measures one
+/// for each `J`.
+pub fn translation_has_counts()
+    ensures { TranslationCounts }
 {}

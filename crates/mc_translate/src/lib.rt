@@ -9,7 +9,7 @@ mod translation;
 mod wires;
 
 pub use laws::{
-    translation_has_scale, translation_keeps_table, translations_are_valid,
+    translation_has_counts, translation_has_scale, translation_keeps_table, translations_are_valid,
     translations_have_causal_flows, translations_have_flows, translations_have_no_constants,
 };
 pub use translation::{BuildEnd, translate};

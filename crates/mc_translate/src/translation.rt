@@ -1,12 +1,12 @@
 //! Translation.
 
-ghost use Rattle.std.specs.Prelude.{◌≡◌, ◌↔◌, ℕ, ◌<◌, ◌≤◌, Bool, List, IfOk, Err, OnOk, length, map};
-ghost use Rattle.mc_model.specs.Bits.{Bits};
+ghost use Rattle.std.specs.Prelude.{◌≡◌, ◌↔◌, ℕ, ◌<◌, ◌≤◌, IfOk, Err, OnOk, length, map};
+ghost use Rattle.mc_model.specs.Limits.{most_gates, most_qubits};
 ghost use Rattle.mc_model.specs.Ring.{ring};
-ghost use Rattle.mc_model.specs.Amplitude.{branch_map, circuit_table, j_count};
-ghost use Rattle.mc_model.specs.Translation.{translation};
+ghost use Rattle.mc_model.specs.Amplitude.{HasTableAtEachBranch, j_count};
+ghost use Rattle.mc_model.specs.Translation.{translation, qubit_count};
 ghost use Rattle.mc_circuit.specs.Gates.{plain_gate};
-ghost use Rattle.mc_translate.specs.Qubits.{is_j, qubit_count};
+ghost use Rattle.mc_translate.specs.Qubits.{is_j};
 
 use crate::gates::push_gate;
 use crate::wires::{in_order, qubits_of, with_wires};
@@ -38,7 +38,7 @@ fn is_j<const H: usize>(gate: &Gate<H>) -> bool
 
 /// How many gates are `J`.
 fn count_j<const H: usize>(gates: &[Gate<H>]) -> u32
-    requires { length gates.now ≤ 32_768 }
+    requires { length gates.now ≤ most_gates }
     ensures { result ≡ j_count (map plain_gate gates.now) }
 {
     let mut count = 0;
@@ -52,7 +52,7 @@ fn count_j<const H: usize>(gates: &[Gate<H>]) -> u32
 
 /// The translation of a circuit whose qubits are few enough.
 fn build<const H: usize>(alloc: Global, circuit: &Circuit<H>) -> Result<Pattern<H>, Memory>
-    requires { qubit_count circuit.now ≤ 256 }
+    requires { qubit_count circuit.now ≤ most_qubits }
     ensures { IfOk result (λ pattern. pattern ≡ translation H circuit.now) }
 {
     let mut builder = with_wires(alloc, circuit)?;
@@ -64,20 +64,20 @@ fn build<const H: usize>(alloc: Global, circuit: &Circuit<H>) -> Result<Pattern<
     builder.finish_listing(alloc, &outputs)
 }
 
-/// The pattern that does what a circuit does: each `J` measures its wire's qubit and moves the wire to a fresh qubit, each CZ
-/// entangles. Whatever the outcomes, its branch map is the circuit's table. `Limit` comes exactly where wires and `J` gates
-/// together, which is its number, are more than 256.
+/// The pattern that does what a circuit does: each `J` measures its wire's qubit and moves the wire
+/// to a fresh qubit, each CZ entangles. Whatever the outcomes, its branch map is the circuit's
+/// table. `Limit` comes exactly where wires and `J` gates together, which is its number, are more
+/// than 256.
 pub fn translate<const H: usize>(
     alloc: Global,
     circuit: &Circuit<H>,
 ) -> Result<Pattern<H>, BuildEnd>
     ensures pattern { IfOk result (λ pattern. pattern ≡ translation H circuit.now) }
-    ensures table { 0 < H → IfOk result (λ pattern. (o : Bits) (y : List Bool) (b : Bits) →
-        branch_map (ring H) pattern o y b ≡ circuit_table (ring H) circuit.now y b) }
+    ensures table { IfOk result (λ pattern. HasTableAtEachBranch (ring H) circuit.now pattern) }
     ensures limit { (n : ℕ) → (result ≡ Err (BuildEnd.Limit n)) ↔
-        ((256 < qubit_count circuit.now) × (n ≡ qubit_count circuit.now)) }
-    ensures few { OnOk result (qubit_count circuit.now ≤ 256) }
-    ensures memory_last { result ≡ Err BuildEnd.Memory → qubit_count circuit.now ≤ 256 }
+        ((most_qubits < qubit_count circuit.now) × (n ≡ qubit_count circuit.now)) }
+    ensures few { OnOk result (qubit_count circuit.now ≤ most_qubits) }
+    ensures memory_last { result ≡ Err BuildEnd.Memory → qubit_count circuit.now ≤ most_qubits }
 {
     let qubits = circuit.names().len() as u32 + count_j(circuit.gates());
     if qubits > MOST_QUBITS {

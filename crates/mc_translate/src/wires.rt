@@ -1,6 +1,7 @@
 //! The wires of a circuit as the first qubits of its translation.
 
 ghost use Rattle.std.specs.Prelude.{◌≡◌, ◌-◌, ◌<◌, ◌≤◌, All, IfOk, length, take, map};
+ghost use Rattle.mc_model.specs.Limits.{most_qubits};
 ghost use Rattle.mc_model.specs.Numbers.{numbers_from};
 ghost use Rattle.mc_model.specs.Pattern.{wires};
 ghost use Rattle.mc_model.specs.Translation.{preparations};
@@ -36,7 +37,7 @@ pub(crate) fn with_wires<const H: usize>(
     alloc: Global,
     circuit: &Circuit<H>,
 ) -> Result<Builder<H>, Memory>
-    requires { wires circuit.now ≤ 256 }
+    requires { wires circuit.now ≤ most_qubits }
     ensures { IfOk result (λ builder. builder ≡ begun circuit.now.names circuit.now.inputs
         (preparations circuit.now.inputs (wires circuit.now - circuit.now.inputs))) }
 {

@@ -1,12 +1,12 @@
 use Rattle.std.proofs.Common.{ap, sym, ◌∙◌, refl, ◌≡◌, ◌&&◌, Bool}
-use Rattle.mc_model.specs.Bits.{parity}
+use Rattle.mc_model.specs.Bits.{odd}
 use Rattle.mc_bits.specs.Words.{word_bit}
 use Rattle.mc_bits.proofs.BitsOfWords.{parity_more}
 use Rattle.mc_bits.proofs.words.parity_of.Goals.{then-bit_in, else-bit_in}
 use Rattle.mc_bits.proofs.words.parity_of.Goals as goal
 
 pub bits-init : goal.bits-init
-unfolding parity
+unfolding odd
 bits-init c = refl
 
 pub bits-preserved : goal.bits-preserved

@@ -1,6 +1,6 @@
 use Rattle.std.proofs.Common.{sym, ◌∙◌, arith}
 use Rattle.std.proofs.lemmas.Bool.{and_from, not_from_false}
-use Rattle.mc_signal.specs.Outcomes.{bits_of}
+use Rattle.mc_model.specs.Bits.{bits_of}
 use Rattle.mc_pattern.proofs.Members.{some_number, no_number}
 use Rattle.mc_pattern.specs.Rules.{is_missing}
 use Rattle.mc_pattern.proofs.outputs.has_missing.Goals as goal

@@ -1,5 +1,5 @@
 use Rattle.std.proofs.Common.{◌≡◌, ℕ, ◌<◌, false}
-use Rattle.mc_signal.specs.Outcomes.{bits_of}
+use Rattle.mc_model.specs.Bits.{bits_of}
 use Rattle.mc_pattern.specs.Rules.{is_missing}
 use Rattle.mc_pattern.proofs.outputs.has_missing.Given as goal
 

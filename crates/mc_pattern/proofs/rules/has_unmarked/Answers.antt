@@ -1,6 +1,6 @@
 use Rattle.std.proofs.Common.{sym, ◌∙◌}
 use Rattle.std.proofs.lemmas.Bool.{not_from_true, not_from_false}
-use Rattle.mc_signal.specs.Outcomes.{bits_of}
+use Rattle.mc_model.specs.Bits.{bits_of}
 use Rattle.mc_pattern.proofs.Members.{any_there, none_more}
 use Rattle.mc_pattern.specs.Rules.{is_undone}
 use Rattle.mc_pattern.proofs.rules.has_unmarked.Goals as goal

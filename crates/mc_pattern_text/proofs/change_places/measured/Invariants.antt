@@ -1,6 +1,6 @@
 use Rattle.std.proofs.Common.{◌≡◌, map, take}
+use Rattle.mc_model.specs.Pattern.{measured_order}
 use Rattle.mc_pattern.specs.Commands.{plain_command}
-use Rattle.mc_pattern_text.specs.ChangeRows.{measured_order}
 use Rattle.mc_pattern_text.proofs.change_places.measured.Given as goal
 
 abbrev pub invariant-commands : goal.invariant-commands

@@ -1,9 +1,9 @@
 use Rattle.std.proofs.Common.{◌≡◌, ◌<◌, All, ap, ◌∙◌, arith, length, []}
+use Rattle.mc_model.specs.Pattern.{measured_order}
 use Rattle.mc_lex.specs.declared.end.TextEnd.TheVariants.{Limit}
 use Rattle.mc_text.specs.Judged.{section_lines, first_in_section}
 use Rattle.mc_text.specs.Stops.{IsEnd}
 use Rattle.mc_text.proofs.Sections.{clean_ends}
-use Rattle.mc_pattern_text.specs.ChangeRows.{measured_order}
 use Rattle.mc_pattern_text.specs.ChangeJudge.{rules_by}
 use Rattle.mc_pattern_text.specs.ChangeValue.{rows_of}
 use Rattle.mc_pattern_text.proofs.ChangeOrder.{measured_named}

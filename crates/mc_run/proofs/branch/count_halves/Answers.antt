@@ -3,7 +3,7 @@ use Rattle.std.proofs.lemmas.List.{drop_all}
 use Rattle.mc_model.specs.Pattern.{Command}
 use Rattle.mc_model.specs.Amplitude.{halvings}
 use Rattle.mc_pattern.specs.Commands.{plain_command}
-use Rattle.mc_run.proofs.Counting.{left_from, halves_first, none_halves}
+use Rattle.mc_run.proofs.CountsAlong.{left_from, halves_first, none_halves}
 use Rattle.mc_run.proofs.branch.count_halves.Goals as goal
 
 pub commands-preserved : goal.commands-preserved

@@ -1,17 +1,17 @@
-use Rattle.std.proofs.Common.{◌≡◌, ℕ, ◌+◌, ◌*◌, ◌^◌, ◌<◌, List, ℤ, ◌++◌, length, map, sym, ap, ◌∙◌, subst, arith}
+use Rattle.std.proofs.Common.{◌≡◌, ℕ, ◌+◌, ◌*◌, ◌^◌, ◌<◌, List, ℤ, ◌++◌, length, map, sym, ap, ◌∙◌}
+use Rattle.std.proofs.Common.{subst, arith}
 use Rattle.std.specs.Prelude.{All}
-use Rattle.mc_model.specs.Bits.{numbers_below}
+use Rattle.mc_model.specs.Bits.{bits_of}
 use Rattle.mc_model.specs.Pattern.{wires}
 use Rattle.mc_model.specs.Ring.{ring}
 use Rattle.mc_model.specs.Amplitude.{circuit_table}
-use Rattle.mc_signal.specs.Outcomes.{bits_of}
-use Rattle.mc_run.specs.Settings.{spelled, place_spelled}
+use Rattle.mc_run.specs.Settings.{spelled, place_spelled, numbers_below}
 use Rattle.mc_run.specs.Sources.{entry}
 use Rattle.mc_run.specs.Gates.{IsLiving}
-use Rattle.mc_run.proofs.Starts.{length-below}
-use Rattle.mc_run.proofs.Joined.{circuit_entry}
-use Rattle.mc_run.proofs.Filling.{Filled, map_same, filled_more}
-use Rattle.mc_run.proofs.Counting.{outputs_living, listed_few}
+use Rattle.mc_run.proofs.InputVectors.{length-below}
+use Rattle.mc_run.proofs.CoefficientLists.{circuit_entry}
+use Rattle.mc_run.proofs.FilledColumns.{Filled, map_same, filled_more}
+use Rattle.mc_run.proofs.CountsAlong.{outputs_living, listed_few}
 use Rattle.mc_run.proofs.circuit.circuit_table.Goals as goal
 
 pub column-requires-clause-living : goal.column-requires-clause-living
@@ -81,19 +81,21 @@ invariant_of-result g c =
     let out : length c.out-outputs.result.now ≡ length circuit.outputs =
     ap length c.out-outputs.ensures in
     let all : c.columns.b ≡ 2 ^ c.inputs-inputs.result =
-    omega (arith, c.columns-test.false, c.columns.auto.b-end, c.two_to-b-end.ensures) in
-    record {
-      long = c.columns.invariant.long ∙ ap (λ b. b * 2 ^ length circuit.outputs) all
-          ∙ ap (λ n. 2 ^ c.inputs-inputs.result * 2 ^ n) (sym out);
-      small =
-          omega (
-            arith,
-            out,
-            c.requires.few,
-            c.inputs-inputs.ensures,
-            listed_few _ _ _ c.names.ensures.valid.valid.outputs,
-          );
-    }
+    omega (arith, c.columns-test.false, c.columns.auto.b-end, c.two_to-b-end.ensures) in (
+      c.requires.permitted,
+      record {
+        long = c.columns.invariant.long ∙ ap (λ b. b * 2 ^ length circuit.outputs) all
+            ∙ ap (λ n. 2 ^ c.inputs-inputs.result * 2 ^ n) (sym out);
+        small =
+            omega (
+              arith,
+              out,
+              c.requires.few,
+              c.inputs-inputs.ensures,
+              listed_few _ _ _ c.names.ensures.valid.valid.outputs,
+            );
+      },
+    )
 
 pub returns : goal.returns
 returns g c =

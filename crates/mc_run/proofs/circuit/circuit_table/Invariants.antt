@@ -1,9 +1,9 @@
 use Rattle.std.proofs.Common.{◌^◌, length}
+use Rattle.mc_model.specs.Bits.{bits_of}
 use Rattle.mc_model.specs.Ring.{ring}
 use Rattle.mc_model.specs.Amplitude.{circuit_table}
-use Rattle.mc_signal.specs.Outcomes.{bits_of}
 use Rattle.mc_run.specs.Settings.{spelled}
-use Rattle.mc_run.proofs.Filling.{Filled}
+use Rattle.mc_run.proofs.FilledColumns.{Filled}
 use Rattle.mc_run.proofs.circuit.circuit_table.Given as goal
 
 abbrev pub invariant-columns : goal.invariant-columns

@@ -3,7 +3,7 @@ use Rattle.std.proofs.lemmas.List.{drop_all}
 use Rattle.mc_model.specs.Pattern.{Gate}
 use Rattle.mc_model.specs.Amplitude.{j_count}
 use Rattle.mc_circuit.specs.Gates.{plain_gate}
-use Rattle.mc_run.proofs.Counting.{left_from, j_counted, cz_counted, none_counted}
+use Rattle.mc_run.proofs.CountsAlong.{left_from, j_counted, cz_counted, none_counted}
 use Rattle.mc_run.proofs.circuit.count_j.Goals as goal
 use Rattle.mc_run.proofs.circuit.count_j.Goals.{in-J, in-Cz}
 

@@ -1,17 +1,19 @@
-use Rattle.std.proofs.Common.{◌≡◌, ℕ, ◌+◌, ◌≤◌, List, ℤ, [], ◌∷◌, length, map, drop, sym, ap, ◌∙◌, subst, arith}
+use Rattle.std.proofs.Common.{◌≡◌, ℕ, ◌+◌, ◌≤◌, List, ℤ, [], ◌∷◌, length, map, drop, sym, ap, ◌∙◌}
+use Rattle.std.proofs.Common.{subst, arith}
 use Rattle.std.proofs.lemmas.List.{length-map, drop_all}
-use Rattle.mc_model.specs.Bits.{Bits, numbers_below}
+use Rattle.mc_model.specs.Bits.{Bits, bits_of}
 use Rattle.mc_model.specs.Amplitude.{Amps, start, after}
 use Rattle.mc_model.specs.Pattern.{Command}
 use Rattle.mc_model.specs.Valid.{prepared}
 use Rattle.mc_pattern.specs.Commands.{plain_command}
-use Rattle.mc_signal.specs.Outcomes.{bits_of}
 use Rattle.mc_run.specs.Exact.{Exact, exact, phases}
-use Rattle.mc_run.specs.Settings.{spelled}
+use Rattle.mc_run.specs.Settings.{spelled, numbers_below}
 use Rattle.mc_run.specs.Sources.{Holds}
 use Rattle.mc_run.proofs.Turns.{obeys}
 use Rattle.mc_run.specs.Branches.{CommandsLeft}
-use Rattle.mc_run.proofs.CommandsLeft.{command_left_at, command_ready, command_low, command_next, few_live, commands_over, live_over, commands_begin, output_unmeasured}
+use Rattle.mc_run.proofs.CommandsLeft.{command_left_at, command_ready, command_low, command_next}
+use Rattle.mc_run.proofs.CommandsLeft.{few_live, commands_over, live_over, commands_begin}
+use Rattle.mc_run.proofs.CommandsLeft.{output_unmeasured}
 use Rattle.mc_run.proofs.commands.branch_state.Goals as goal
 
 pub commands-init : goal.commands-init

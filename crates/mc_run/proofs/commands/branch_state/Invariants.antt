@@ -1,7 +1,7 @@
 use Rattle.std.proofs.Common.{drop, map}
+use Rattle.mc_model.specs.Bits.{bits_of}
 use Rattle.mc_model.specs.Amplitude.{start, after}
 use Rattle.mc_pattern.specs.Commands.{plain_command}
-use Rattle.mc_signal.specs.Outcomes.{bits_of}
 use Rattle.mc_run.specs.Exact.{Exact, exact, phases}
 use Rattle.mc_run.specs.Settings.{spelled}
 use Rattle.mc_run.specs.Branches.{CommandsLeft}

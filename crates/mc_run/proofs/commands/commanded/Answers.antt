@@ -1,12 +1,12 @@
-use Rattle.std.proofs.Common.{◌≡◌, ℕ, ◌^◌, ◌<◌, List, ℤ, length, map, sym, ap, ap₂, ◌∙◌, subst, arith}
+use Rattle.std.proofs.Common.{◌≡◌, ℕ, ◌^◌, ◌<◌, List, ℤ, length, map, sym, ap, ap₂, ◌∙◌, subst}
+use Rattle.std.proofs.Common.{arith}
 use Rattle.std.proofs.lemmas.List.{length-map}
-use Rattle.mc_model.specs.Bits.{Bits}
+use Rattle.mc_model.specs.Bits.{Bits, bits_of}
 use Rattle.mc_model.specs.Pattern.{Command}
-use Rattle.mc_signal.specs.Outcomes.{bits_of}
 use Rattle.mc_pattern.specs.Commands.{plain_command}
 use Rattle.mc_run.specs.Sources.{source, CanTake, IsLongFor}
 use Rattle.mc_run.specs.Gates.{command_step}
-use Rattle.mc_run.proofs.There.{command_there, command_long}
+use Rattle.mc_run.proofs.StepPlaces.{command_there, command_long}
 use Rattle.mc_run.proofs.Places.{longest, measured_live}
 use Rattle.mc_run.proofs.commands.commanded.Goals as goal
 

@@ -1,16 +1,16 @@
-use Rattle.std.proofs.Common.{◌≡◌, ℕ, ◌+◌, ◌^◌, List, ℤ, [], ◌∷◌, length, map, drop, sym, ap, ◌∙◌, subst, arith}
+use Rattle.std.proofs.Common.{◌≡◌, ℕ, ◌+◌, ◌^◌, List, ℤ, [], ◌∷◌, length, map, drop, sym, ap, ◌∙◌}
+use Rattle.std.proofs.Common.{subst, arith}
 use Rattle.std.proofs.lemmas.List.{length-map, drop_all}
-use Rattle.mc_model.specs.Bits.{numbers_below}
+use Rattle.mc_model.specs.Bits.{bits_of}
 use Rattle.mc_model.specs.Amplitude.{Amps, start, after_gates}
 use Rattle.mc_model.specs.Pattern.{Gate, wires}
 use Rattle.mc_circuit.specs.Gates.{plain_gate}
-use Rattle.mc_signal.specs.Outcomes.{bits_of}
 use Rattle.mc_run.specs.Exact.{Exact, exact, phases}
-use Rattle.mc_run.specs.Settings.{spelled}
+use Rattle.mc_run.specs.Settings.{spelled, numbers_below}
 use Rattle.mc_run.specs.Sources.{IsStepped}
 use Rattle.mc_run.specs.Gates.{gate_step, IsGateReady}
 use Rattle.mc_run.proofs.Turns.{obeys}
-use Rattle.mc_run.proofs.Starts.{length-below}
+use Rattle.mc_run.proofs.InputVectors.{length-below}
 use Rattle.mc_run.proofs.GatesLeft.{GatesLeft, left_at, gate_ready, gate_low, gate_next, gates_over}
 use Rattle.mc_run.proofs.gates.circuit_state.Goals as goal
 

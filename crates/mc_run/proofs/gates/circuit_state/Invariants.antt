@@ -1,11 +1,10 @@
 use Rattle.std.proofs.Common.{◌≡◌, drop, map}
-use Rattle.mc_model.specs.Bits.{numbers_below}
+use Rattle.mc_model.specs.Bits.{bits_of}
 use Rattle.mc_model.specs.Amplitude.{start, after_gates}
 use Rattle.mc_model.specs.Pattern.{wires}
 use Rattle.mc_circuit.specs.Gates.{plain_gate}
-use Rattle.mc_signal.specs.Outcomes.{bits_of}
 use Rattle.mc_run.specs.Exact.{Exact, exact, phases}
-use Rattle.mc_run.specs.Settings.{spelled}
+use Rattle.mc_run.specs.Settings.{spelled, numbers_below}
 use Rattle.mc_run.proofs.GatesLeft.{GatesLeft}
 use Rattle.mc_run.proofs.gates.circuit_state.Given as goal
 

@@ -3,7 +3,7 @@ use Rattle.std.proofs.lemmas.List.{length-map}
 use Rattle.mc_circuit.specs.Gates.{plain_gate}
 use Rattle.mc_run.specs.Sources.{source, CanTake, IsLongFor}
 use Rattle.mc_run.specs.Gates.{gate_step}
-use Rattle.mc_run.proofs.There.{gate_there, gate_long}
+use Rattle.mc_run.proofs.StepPlaces.{gate_there, gate_long}
 use Rattle.mc_run.proofs.gates.gated.Goals as goal
 
 pub advanced-requires-clause-fits : goal.advanced-requires-clause-fits

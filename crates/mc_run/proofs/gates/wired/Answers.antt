@@ -1,13 +1,13 @@
-use Rattle.std.proofs.Common.{◌≡◌, ℕ, suc, ◌+◌, ◌^◌, List, ℤ, ◌∷◌, length, map, ap, ◌∙◌, subst, arith}
+use Rattle.std.proofs.Common.{◌≡◌, ℕ, suc, ◌+◌, ◌^◌, List, ℤ, ◌∷◌, length, map, ap, ◌∙◌, subst}
+use Rattle.std.proofs.Common.{arith}
 use Rattle.std.proofs.lemmas.List.{length-map}
-use Rattle.mc_model.specs.Bits.{Bits, numbers_below}
+use Rattle.mc_model.specs.Bits.{Bits, bits_of}
 use Rattle.mc_model.specs.Amplitude.{start}
-use Rattle.mc_signal.specs.Outcomes.{bits_of}
 use Rattle.mc_run.specs.Exact.{Exact, exact, phases}
-use Rattle.mc_run.specs.Settings.{spelled}
+use Rattle.mc_run.specs.Settings.{spelled, numbers_below}
 use Rattle.mc_run.specs.Sources.{Holds}
 use Rattle.mc_run.proofs.Turns.{obeys}
-use Rattle.mc_run.proofs.Starts.{length-below, wire_holds}
+use Rattle.mc_run.proofs.InputVectors.{length-below, wire_holds}
 use Rattle.mc_run.proofs.gates.wired.Goals as goal
 
 pub grown-requires-clause-few : goal.grown-requires-clause-few

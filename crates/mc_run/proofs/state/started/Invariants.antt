@@ -1,9 +1,8 @@
 use Rattle.std.proofs.Common.{◌≡◌, map}
-use Rattle.mc_model.specs.Bits.{numbers_below}
+use Rattle.mc_model.specs.Bits.{bits_of}
 use Rattle.mc_model.specs.Amplitude.{start}
-use Rattle.mc_signal.specs.Outcomes.{bits_of}
 use Rattle.mc_run.specs.Exact.{Exact, exact, phases}
-use Rattle.mc_run.specs.Settings.{spelled}
+use Rattle.mc_run.specs.Settings.{spelled, numbers_below}
 use Rattle.mc_run.specs.Sources.{Holds}
 use Rattle.mc_run.proofs.state.started.Given as goal
 

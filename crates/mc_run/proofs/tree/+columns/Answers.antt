@@ -1,24 +1,26 @@
-use Rattle.std.proofs.Common.{rules, ◌≡◌, ℕ, ◌+◌, ◌-◌, ◌*◌, ◌^◌, ◌<◌, ◌≤◌, true, false, ℤ, List, [], ◌∷◌, ◌++◌, length, map, take, drop, slice_set, sym, subst, ap, ◌∙◌, arith}
+use Rattle.std.proofs.Common.{rules, ◌≡◌, ℕ, ◌+◌, ◌-◌, ◌*◌, ◌^◌, ◌<◌, ◌≤◌, true, false, ℤ, List, []}
+use Rattle.std.proofs.Common.{◌∷◌, ◌++◌, length, map, take, drop, slice_set, sym, subst, ap, ◌∙◌}
+use Rattle.std.proofs.Common.{arith}
 use Rattle.std.specs.Prelude.{All}
 use Rattle.std.proofs.lemmas.List.{length-map, length-set, map-append}
-use Rattle.mc_model.specs.Bits.{Bits, replaced}
+use Rattle.mc_model.specs.Bits.{Bits, replaced, bits_of}
 use Rattle.mc_model.proofs.BitLemmas.{replaced_again}
-use Rattle.mc_model.specs.Pattern.{Command, Meas}
+use Rattle.mc_model.specs.Pattern.{Command, Meas, measured_order}
 use Rattle.mc_model.specs.Valid.{prepared}
-use Rattle.mc_signal.specs.Outcomes.{bits_of}
 use Rattle.mc_pattern.specs.Commands.{plain_command}
 use Rattle.mc_model.specs.Amplitude.{Amps, after}
 use Rattle.mc_run.specs.Exact.{Exact, exact, phases}
 use Rattle.mc_run.specs.Sources.{entry, IsStepped}
 use Rattle.mc_run.specs.Gates.{IsReady, IsLiving, IsLowBefore, command_step, live_behind}
 use Rattle.mc_run.specs.Settings.{place_spelled}
-use Rattle.mc_run.specs.Reports.{measured_order}
-use Rattle.mc_run.proofs.Order.{order_first}
+use Rattle.mc_run.proofs.MeasuringOrder.{order_first}
 use Rattle.mc_run.specs.Branches.{CommandsLeft, AreColumns}
 use Rattle.mc_run.proofs.Turns.{obeys}
-use Rattle.mc_run.proofs.Counting.{listed_few}
-use Rattle.mc_run.proofs.CommandsLeft.{command_ready, command_low, command_next, few_live, live_over, output_unmeasured}
-use Rattle.mc_run.proofs.Branching.{first_command, no_command, restored, at_other, columns_none, columns_straight, columns_parted}
+use Rattle.mc_run.proofs.CountsAlong.{listed_few}
+use Rattle.mc_run.proofs.CommandsLeft.{command_ready, command_low, command_next, few_live}
+use Rattle.mc_run.proofs.CommandsLeft.{live_over, output_unmeasured}
+use Rattle.mc_run.proofs.PartedBranches.{first_command, no_command, restored, at_other, columns_none}
+use Rattle.mc_run.proofs.PartedBranches.{columns_straight, columns_parted}
 use Rattle.mc_run.proofs.tree.+columns.Goals as goal
 
 pub column-requires-clause-short : goal.column-requires-clause-short
@@ -118,7 +120,8 @@ columns-requires g t c κs within =
     split c.requires.here.1 in
     let there = at_other ring g.R.Ring.IsElement pattern.inputs pattern.commands pattern.outputs o end
     (command ∷ left) live v here (bits_of c.args.outcomes.now) in
-    let next_end : Amps (List ℤ) = after (phases ring) (bits_of c.args.outcomes.now) (command ∷ left) here.amps in (
+    let next_end : Amps (List ℤ) = after (phases ring) (bits_of c.args.outcomes.now)
+    (command ∷ left) here.amps in (
       search rules,
       (
         search rules,
@@ -140,11 +143,17 @@ columns-requires g t c κs within =
                         c.requires.outcomes,
                         (
                           next_end,
-                          subst (λ l. CommandsLeft ring g.R.Ring.IsElement (bits_of c.args.outcomes.now) pattern.inputs
-                              pattern.commands next_end left l (map seen c.in_ok-next-in-len1-up.next.entries.items)) (sym c.in_ok-next-in-len1-up.ensures.live)
-                              (command_next ring g.R.Ring.IsElement laws (bits_of c.args.outcomes.now) pattern.inputs
-                              pattern.commands valid.commands next_end live v command left (map seen c.in_ok-next-in-len1-up.next.entries.items) there
-                              (length-map c.in_ok-next-in-len1-up.next.entries.items seen ∙ c.in_ok-next-in-len1-up.ensures.long)
+                          subst (λ l. CommandsLeft ring g.R.Ring.IsElement
+                              (bits_of c.args.outcomes.now) pattern.inputs
+                              pattern.commands next_end left l
+                              (map seen c.in_ok-next-in-len1-up.next.entries.items))
+                              (sym c.in_ok-next-in-len1-up.ensures.live)
+                              (command_next ring g.R.Ring.IsElement laws
+                              (bits_of c.args.outcomes.now) pattern.inputs
+                              pattern.commands valid.commands next_end live v command left
+                              (map seen c.in_ok-next-in-len1-up.next.entries.items) there
+                              (length-map c.in_ok-next-in-len1-up.next.entries.items seen
+                              ∙ c.in_ok-next-in-len1-up.ensures.long)
                               c.in_ok-next-in-len1-up.ensures.stepped),
                         ),
                       ),
@@ -324,7 +333,8 @@ columns-requires-in-len1-up g t c κs within =
     ap length c.set.ensures.list ∙ length-set c.args.outcomes.now c.in-Some.q false in
     let there = at_other ring g.R.Ring.IsElement pattern.inputs pattern.commands pattern.outputs o end
     (command ∷ left) live v here (bits_of c.set.new.self) in
-    let next_end : Amps (List ℤ) = after (phases ring) (bits_of c.set.new.self) (command ∷ left) here.amps in (
+    let next_end : Amps (List ℤ) = after (phases ring) (bits_of c.set.new.self)
+    (command ∷ left) here.amps in (
       search rules,
       (
         search rules,
@@ -346,11 +356,17 @@ columns-requires-in-len1-up g t c κs within =
                         omega (arith, long1, c.requires.outcomes),
                         (
                           next_end,
-                          subst (λ l. CommandsLeft ring g.R.Ring.IsElement (bits_of c.set.new.self) pattern.inputs
-                              pattern.commands next_end left l (map seen c.in_ok-low-in-len1-up.low.entries.items)) (sym c.in_ok-low-in-len1-up.ensures.live)
-                              (command_next ring g.R.Ring.IsElement laws (bits_of c.set.new.self) pattern.inputs
-                              pattern.commands valid.commands next_end live v command left (map seen c.in_ok-low-in-len1-up.low.entries.items) there
-                              (length-map c.in_ok-low-in-len1-up.low.entries.items seen ∙ c.in_ok-low-in-len1-up.ensures.long)
+                          subst (λ l. CommandsLeft ring g.R.Ring.IsElement
+                              (bits_of c.set.new.self) pattern.inputs
+                              pattern.commands next_end left l
+                              (map seen c.in_ok-low-in-len1-up.low.entries.items))
+                              (sym c.in_ok-low-in-len1-up.ensures.live)
+                              (command_next ring g.R.Ring.IsElement laws
+                              (bits_of c.set.new.self) pattern.inputs
+                              pattern.commands valid.commands next_end live v command left
+                              (map seen c.in_ok-low-in-len1-up.low.entries.items) there
+                              (length-map c.in_ok-low-in-len1-up.low.entries.items seen
+                              ∙ c.in_ok-low-in-len1-up.ensures.long)
                               c.in_ok-low-in-len1-up.ensures.stepped),
                         ),
                       ),
@@ -450,18 +466,22 @@ commanded-requires-in-len1-up-2 g t c =
           (
             c.requires.steps,
             (
-              subst (λ l. IsReady l (length c.set-in-len1-up.new.self) command) (sym c.in_ok-other-in-len1-up.ensures.live)
+              subst (λ l. IsReady l (length c.set-in-len1-up.new.self) command)
+                  (sym c.in_ok-other-in-len1-up.ensures.live)
                   (command_ready ring g.R.Ring.IsElement laws o pattern.inputs pattern.commands
                   valid.commands end live v command left (length c.set-in-len1-up.new.self)
                   (omega (arith, valid.qubits, c.requires.outcomes, long3)) here),
               (
-                subst (λ l. length l < 32) (sym c.in_ok-other-in-len1-up.ensures.live) (let f = few_live ring g.R.Ring.IsElement laws o pattern.inputs pattern.commands
+                subst (λ l. length l < 32) (sym c.in_ok-other-in-len1-up.ensures.live)
+                    (let f = few_live ring g.R.Ring.IsElement laws o pattern.inputs pattern.commands
                     valid.commands end live v (command ∷ left) here 16 all16 in omega arith),
                 (
-                  ap length c.in_ok-other-in-len1-up.ensures.entries ∙ sym (length-map c.args.state.entries.items seen) ∙ here.holds.long
+                  ap length c.in_ok-other-in-len1-up.ensures.entries ∙ sym
+                      (length-map c.args.state.entries.items seen) ∙ here.holds.long
                       ∙ ap (λ l. 2 ^ length l) (sym c.in_ok-other-in-len1-up.ensures.live),
                   subst (λ es. IsLowBefore g.R.PhaseRing.height_of (map seen es) command)
-                      (sym c.in_ok-other-in-len1-up.ensures.entries) (command_low ring g.R.Ring.IsElement laws o pattern.inputs pattern.commands
+                      (sym c.in_ok-other-in-len1-up.ensures.entries)
+                      (command_low ring g.R.Ring.IsElement laws o pattern.inputs pattern.commands
                       valid.commands end live v command left (omega arith) here),
                 ),
               ),
@@ -510,7 +530,8 @@ columns-requires-in-len1-up-2 g t c κs within =
     ∙ length-set c.columns-in-len1-up.new.outcomes c.in-Some.q true ∙ long2 in
     let there = at_other ring g.R.Ring.IsElement pattern.inputs pattern.commands pattern.outputs o end
     (command ∷ left) live v here (bits_of c.set-in-len1-up.new.self) in
-    let next_end : Amps (List ℤ) = after (phases ring) (bits_of c.set-in-len1-up.new.self) (command ∷ left) here.amps in (
+    let next_end : Amps (List ℤ) = after (phases ring) (bits_of c.set-in-len1-up.new.self)
+    (command ∷ left) here.amps in (
       search rules,
       (
         search rules,
@@ -532,17 +553,27 @@ columns-requires-in-len1-up-2 g t c κs within =
                         omega (arith, long3, c.requires.outcomes),
                         (
                           next_end,
-                          subst (λ l. CommandsLeft ring g.R.Ring.IsElement (bits_of c.set-in-len1-up.new.self) pattern.inputs
-                              pattern.commands next_end left l (map seen c.in_ok-high-in-len1-up.high.entries.items)) (sym (c.in_ok-high-in-len1-up.ensures.live ∙ ap (λ l. live_behind l command) c.in_ok-other-in-len1-up.ensures.live))
-                              (command_next ring g.R.Ring.IsElement laws (bits_of c.set-in-len1-up.new.self) pattern.inputs
-                              pattern.commands valid.commands next_end live v command left (map seen c.in_ok-high-in-len1-up.high.entries.items) there
-                              (length-map c.in_ok-high-in-len1-up.high.entries.items seen ∙ c.in_ok-high-in-len1-up.ensures.long
-                              ∙ ap (λ l. 2 ^ length (live_behind l command)) c.in_ok-other-in-len1-up.ensures.live)
+                          subst (λ l. CommandsLeft ring g.R.Ring.IsElement
+                              (bits_of c.set-in-len1-up.new.self) pattern.inputs
+                              pattern.commands next_end left l
+                              (map seen c.in_ok-high-in-len1-up.high.entries.items))
+                              (sym (c.in_ok-high-in-len1-up.ensures.live ∙ ap
+                              (λ l. live_behind l command) c.in_ok-other-in-len1-up.ensures.live))
+                              (command_next ring g.R.Ring.IsElement laws
+                              (bits_of c.set-in-len1-up.new.self) pattern.inputs
+                              pattern.commands valid.commands next_end live v command left
+                              (map seen c.in_ok-high-in-len1-up.high.entries.items) there
+                              (length-map c.in_ok-high-in-len1-up.high.entries.items seen
+                              ∙ c.in_ok-high-in-len1-up.ensures.long
+                              ∙ ap (λ l. 2 ^ length
+                              (live_behind l command)) c.in_ok-other-in-len1-up.ensures.live)
                               (subst (λ l. IsStepped ring g.R.Ring.IsElement
-                              (command_step ring.half l (bits_of c.set-in-len1-up.new.self) command) v (map seen c.in_ok-high-in-len1-up.high.entries.items))
+                              (command_step ring.half l (bits_of c.set-in-len1-up.new.self) command) v
+                              (map seen c.in_ok-high-in-len1-up.high.entries.items))
                               c.in_ok-other-in-len1-up.ensures.live
                               (subst (λ es. IsStepped ring g.R.Ring.IsElement
-                              (command_step ring.half c.in_ok-other-in-len1-up.other.live.items (bits_of c.set-in-len1-up.new.self) command)
+                              (command_step ring.half c.in_ok-other-in-len1-up.other.live.items
+                              (bits_of c.set-in-len1-up.new.self) command)
                               (map seen es) (map seen c.in_ok-high-in-len1-up.high.entries.items)) c.in_ok-other-in-len1-up.ensures.entries c.in_ok-high-in-len1-up.ensures.stepped))),
                         ),
                       ),

@@ -1,19 +1,19 @@
-use Rattle.std.proofs.Common.{rules, ◌≡◌, ℕ, ◌+◌, ◌*◌, ◌^◌, ◌<◌, ◌≤◌, false, replicate, ℤ, List, [], ◌∷◌, ◌++◌, length, map, sym, subst, ap, ◌∙◌, arith, refl}
+use Rattle.std.proofs.Common.{rules, ◌≡◌, ℕ, ◌+◌, ◌*◌, ◌^◌, ◌<◌, ◌≤◌, false, replicate, ℤ, List, []}
+use Rattle.std.proofs.Common.{◌∷◌, ◌++◌, length, map, sym, subst, ap, ◌∙◌, arith, refl}
 use Rattle.std.proofs.lemmas.List.{length-map, length-replicate, map-append}
-use Rattle.mc_model.specs.Bits.{Bits, all_zero, numbers_below}
+use Rattle.mc_model.specs.Bits.{Bits, all_zero, bits_of}
 use Rattle.mc_model.specs.Pattern.{Command}
 use Rattle.mc_model.specs.Amplitude.{start, after}
-use Rattle.mc_signal.specs.Outcomes.{bits_of}
 use Rattle.mc_pattern.specs.Commands.{plain_command}
 use Rattle.mc_cyclo.specs.Cyclo.{IsLong}
 use Rattle.mc_run.specs.Exact.{phases}
-use Rattle.mc_run.specs.Settings.{spelled}
+use Rattle.mc_run.specs.Settings.{spelled, numbers_below}
 use Rattle.mc_run.specs.Sources.{Holds}
 use Rattle.mc_run.specs.Branches.{CommandsLeft, AreColumns, AreAllColumns}
 use Rattle.mc_run.proofs.CommandsLeft.{commands_begin}
-use Rattle.mc_run.proofs.Filling.{map_same}
-use Rattle.mc_run.proofs.Joined.{cyclo}
-use Rattle.mc_run.proofs.Order.{none_set}
+use Rattle.mc_run.proofs.FilledColumns.{map_same}
+use Rattle.mc_run.proofs.CoefficientLists.{cyclo}
+use Rattle.mc_run.proofs.MeasuringOrder.{none_set}
 use Rattle.mc_run.proofs.AllColumns.{no_columns, columns_more}
 use Rattle.mc_run.proofs.tree.all_columns.Goals as goal
 

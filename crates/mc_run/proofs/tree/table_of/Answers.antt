@@ -1,17 +1,18 @@
-use Rattle.std.proofs.Common.{rules, ◌≡◌, ℕ, ◌+◌, ◌*◌, ◌^◌, ◌<◌, List, ℤ, ◌++◌, length, map, sym, ap, ap₂, ◌≤◌, ◌∙◌, subst, arith}
+use Rattle.std.proofs.Common.{rules, ◌≡◌, ℕ, ◌+◌, ◌*◌, ◌^◌, ◌<◌, List, ℤ, ◌++◌, length, map, sym}
+use Rattle.std.proofs.Common.{ap, ap₂, ◌≤◌, ◌∙◌, subst, arith}
 use Rattle.std.specs.Prelude.{All}
+use Rattle.mc_model.specs.Bits.{bits_of}
 use Rattle.mc_model.specs.Ring.{ring}
 use Rattle.mc_model.specs.Amplitude.{branch_map, halvings}
 use Rattle.mc_pattern.specs.Patterns.{measured_count}
 use Rattle.mc_run.specs.Reports.{outcomes_of}
 use Rattle.mc_run.proofs.AllColumns.{few_columns, column_within}
-use Rattle.mc_signal.specs.Outcomes.{bits_of}
 use Rattle.mc_run.specs.Settings.{spelled, place_spelled}
 use Rattle.mc_run.specs.Sources.{entry}
 use Rattle.mc_run.specs.Gates.{IsLiving}
-use Rattle.mc_run.proofs.Joined.{branch_entry}
-use Rattle.mc_run.proofs.Filling.{Filled, map_same, filled_more}
-use Rattle.mc_run.proofs.Counting.{listed_few}
+use Rattle.mc_run.proofs.CoefficientLists.{branch_entry}
+use Rattle.mc_run.proofs.FilledColumns.{Filled, map_same, filled_more}
+use Rattle.mc_run.proofs.CountsAlong.{listed_few}
 use Rattle.mc_run.proofs.tree.table_of.Goals as goal
 
 pub two_to-width-requires : goal.two_to-width-requires
@@ -102,19 +103,21 @@ invariant_of-result g c =
     let out : length c.outputs-outputs.result.now ≡ length pattern.outputs =
     ap length c.outputs-outputs.ensures in
     let all : c.columns.b ≡ 2 ^ c.inputs-inputs.result =
-    omega (arith, c.columns-test.false, c.columns.auto.b-end, c.two_to-b-end.ensures) in
-    record {
-      long = c.columns.invariant.long ∙ ap (λ b. b * 2 ^ length pattern.outputs) all
-          ∙ ap (λ n. 2 ^ c.inputs-inputs.result * 2 ^ n) (sym out);
-      small =
-          omega (
-            arith,
-            out,
-            c.requires.few,
-            c.inputs-inputs.ensures,
-            listed_few _ _ _ c.names-names.ensures.valid.valid.outputs,
-          );
-    }
+    omega (arith, c.columns-test.false, c.columns.auto.b-end, c.two_to-b-end.ensures) in (
+      c.requires.permitted,
+      record {
+        long = c.columns.invariant.long ∙ ap (λ b. b * 2 ^ length pattern.outputs) all
+            ∙ ap (λ n. 2 ^ c.inputs-inputs.result * 2 ^ n) (sym out);
+        small =
+            omega (
+              arith,
+              out,
+              c.requires.few,
+              c.inputs-inputs.ensures,
+              listed_few _ _ _ c.names-names.ensures.valid.valid.outputs,
+            );
+      },
+    )
 
 pub returns-clause-table : goal.returns-clause-table
 returns-clause-table g c =

@@ -1,10 +1,10 @@
 use Rattle.std.proofs.Common.{◌^◌, length}
+use Rattle.mc_model.specs.Bits.{bits_of}
 use Rattle.mc_model.specs.Ring.{ring}
 use Rattle.mc_model.specs.Amplitude.{branch_map}
-use Rattle.mc_signal.specs.Outcomes.{bits_of}
 use Rattle.mc_run.specs.Reports.{outcomes_of}
 use Rattle.mc_run.specs.Settings.{spelled}
-use Rattle.mc_run.proofs.Filling.{Filled}
+use Rattle.mc_run.proofs.FilledColumns.{Filled}
 use Rattle.mc_run.proofs.tree.table_of.Given as goal
 
 abbrev pub invariant-columns : goal.invariant-columns

@@ -1,4 +1,5 @@
-use Rattle.std.proofs.Common.{rules, ◌≡◌, ℕ, ◌+◌, ◌*◌, ◌<◌, ℤ, List, length, map, sym, subst, ap, ◌∙◌, arith}
+use Rattle.std.proofs.Common.{rules, ◌≡◌, ℕ, ◌+◌, ◌*◌, ◌<◌, ℤ, List, length, map, sym, subst, ap}
+use Rattle.std.proofs.Common.{◌∙◌, arith}
 use Rattle.mc_run.specs.Sources.{source, CanTake, IsLongFor}
 use Rattle.mc_run.specs.declared.step.Step.TheVariants.{J, Meas}
 use Rattle.mc_run.proofs.vector.behind.Goals as goal

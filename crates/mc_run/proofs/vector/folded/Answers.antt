@@ -1,4 +1,5 @@
-use Rattle.std.proofs.Common.{rules, ◌≡◌, ℕ, ◌+◌, ◌*◌, ◌/◌, ◌<◌, ◌≤◌, true, false, ℤ, List, length, map, take, sym, subst, ap, ap₂, ◌∙◌, arith}
+use Rattle.std.proofs.Common.{rules, ◌≡◌, ℕ, ◌+◌, ◌*◌, ◌/◌, ◌<◌, ◌≤◌, true, false, ℤ, List, length}
+use Rattle.std.proofs.Common.{map, take, sym, subst, ap, ap₂, ◌∙◌, arith}
 use Rattle.std.proofs.lemmas.List.{length-map, length-set}
 use Rattle.mc_run.specs.Exact.{Exact, exact}
 use Rattle.mc_run.specs.Settings.{with_more}
@@ -7,7 +8,7 @@ use Rattle.mc_run.specs.declared.step.Step.{Step}
 use Rattle.mc_run.specs.declared.step.Step.TheVariants.{Meas}
 use Rattle.mc_run.proofs.Pairs.{first_not_before}
 use Rattle.mc_run.proofs.Passes.{Passed}
-use Rattle.mc_run.proofs.Written.{within_pairs, read_one, write_one, pass_cut}
+use Rattle.mc_run.proofs.WrittenEntries.{within_pairs, read_one, write_one, pass_cut}
 use Rattle.mc_run.proofs.vector.folded.Goals as goal
 
 pub pairs-preserved : goal.pairs-preserved

@@ -1,6 +1,6 @@
 use Rattle.std.proofs.Common.{◌≡◌, ℕ, ◌<◌, map, sym, subst, arith, below_more}
 use Rattle.mc_run.specs.Sources.{entry}
-use Rattle.mc_run.proofs.Written.{seen_at}
+use Rattle.mc_run.proofs.WrittenEntries.{seen_at}
 use Rattle.mc_run.proofs.vector.known_all.Goals as goal
 
 pub entries-preserved : goal.entries-preserved

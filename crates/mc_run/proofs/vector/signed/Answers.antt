@@ -1,4 +1,5 @@
-use Rattle.std.proofs.Common.{rules, ◌≡◌, ℕ, ◌+◌, ◌<◌, true, false, ◌&&◌, ℤ, List, length, map, sym, subst, ap, ◌∙◌, arith}
+use Rattle.std.proofs.Common.{rules, ◌≡◌, ℕ, ◌+◌, ◌<◌, true, false, ◌&&◌, ℤ, List, length, map, sym}
+use Rattle.std.proofs.Common.{subst, ap, ◌∙◌, arith}
 use Rattle.std.proofs.lemmas.List.{length-map, length-set}
 use Rattle.mc_run.specs.Exact.{Exact, exact}
 use Rattle.mc_run.specs.Settings.{digit}
@@ -6,7 +7,7 @@ use Rattle.mc_run.specs.Sources.{entry}
 use Rattle.mc_run.specs.declared.step.Step.TheVariants.{Ent}
 use Rattle.mc_run.proofs.Turns.{obeys}
 use Rattle.mc_run.proofs.Passes.{Passed, pass_none}
-use Rattle.mc_run.proofs.Written.{read_one, write_one, signed_there, unsigned_there}
+use Rattle.mc_run.proofs.WrittenEntries.{read_one, write_one, signed_there, unsigned_there}
 use Rattle.mc_run.proofs.vector.signed.Goals.{then-digit, else-digit}
 use Rattle.mc_run.proofs.vector.signed.Goals as goal
 

@@ -1,4 +1,5 @@
-use Rattle.std.proofs.Common.{◌≡◌, ℕ, ◌+◌, ◌*◌, ◌^◌, ◌<◌, ◌≤◌, true, false, ℤ, List, length, map, sym, subst, ap, ap₂, ◌∙◌, arith, rules}
+use Rattle.std.proofs.Common.{◌≡◌, ℕ, ◌+◌, ◌*◌, ◌^◌, ◌<◌, ◌≤◌, true, false, ℤ, List, length, map}
+use Rattle.std.proofs.Common.{sym, subst, ap, ap₂, ◌∙◌, arith, rules}
 use Rattle.std.proofs.lemmas.List.{length-map, length-set}
 use Rattle.mc_run.specs.Exact.{Exact, exact}
 use Rattle.mc_run.specs.Settings.{with_more}
@@ -7,7 +8,7 @@ use Rattle.mc_run.specs.declared.step.Step.TheVariants.{X}
 use Rattle.mc_run.proofs.Turns.{obeys}
 use Rattle.mc_run.proofs.Pairs.{pair_of, pair_below}
 use Rattle.mc_run.proofs.Passes.{Passed, pass_begins, pass_over}
-use Rattle.mc_run.proofs.Written.{offset_fits, within_pairs, read_pair, write_pair, flipped}
+use Rattle.mc_run.proofs.WrittenEntries.{offset_fits, within_pairs, read_pair, write_pair, flipped}
 use Rattle.mc_run.proofs.vector.swapped.Goals as goal
 
 pub bounds-entries-first : goal.bounds-entries-first

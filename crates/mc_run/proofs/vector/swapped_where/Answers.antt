@@ -1,10 +1,11 @@
-use Rattle.std.proofs.Common.{rules, ◌≡◌, ℕ, ◌<◌, true, false, ℤ, List, length, map, sym, subst, arith}
+use Rattle.std.proofs.Common.{rules, ◌≡◌, ℕ, ◌<◌, true, false, ℤ, List, length, map, sym, subst}
+use Rattle.std.proofs.Common.{arith}
 use Rattle.std.proofs.lemmas.List.{length-map}
 use Rattle.mc_run.specs.Exact.{Exact, exact}
 use Rattle.mc_run.specs.Sources.{IsStepped}
 use Rattle.mc_run.specs.declared.step.Step.TheVariants.{X}
 use Rattle.mc_run.proofs.Turns.{obeys}
-use Rattle.mc_run.proofs.Written.{unflipped}
+use Rattle.mc_run.proofs.WrittenEntries.{unflipped}
 use Rattle.mc_run.proofs.vector.swapped_where.Goals as goal
 
 pub returns-else-acts-clause-stepped : goal.returns-else-acts-clause-stepped

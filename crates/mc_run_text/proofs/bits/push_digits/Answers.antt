@@ -1,5 +1,5 @@
 use Rattle.std.proofs.Common.{◌∙◌, refl, arith}
-use Rattle.mc_run_text.proofs.Printing.{digits_step}
+use Rattle.mc_run_text.proofs.WrittenLines.{digits_step}
 use Rattle.mc_run_text.proofs.bits.push_digits.Goals as goal
 
 pub digits-preserved : goal.digits-preserved

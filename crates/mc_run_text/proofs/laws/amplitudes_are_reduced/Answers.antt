@@ -1,7 +1,7 @@
 use Rattle.std.proofs.Common.{refl}
 use Rattle.mc_cyclo.proofs.RootLemmas.{permitted_quartered}
 use Rattle.mc_run_text.specs.Reduced.{reduced}
-use Rattle.mc_run_text.proofs.Reducing.{reduced_is, only_one}
+use Rattle.mc_run_text.proofs.RootReduction.{reduced_is, only_one}
 use Rattle.mc_run_text.proofs.laws.amplitudes_are_reduced.Goals as goal
 
 pub returns-clause-value : goal.returns-clause-value

@@ -1,7 +1,7 @@
 use Rattle.std.proofs.Common.{◌∙◌, length, refl, sym, ap, arith}
 use Rattle.std.proofs.lemmas.List.{length-set}
-use Rattle.mc_signal.specs.Outcomes.{bits_of}
-use Rattle.mc_run_text.proofs.Setting.{none_left, one_left}
+use Rattle.mc_model.specs.Bits.{bits_of}
+use Rattle.mc_run_text.proofs.OutcomesSet.{none_left, one_left}
 use Rattle.mc_run_text.proofs.outcomes.set_outcomes.Goals as goal
 
 pub qubits-init : goal.qubits-init

@@ -1,6 +1,6 @@
 use Rattle.std.proofs.Common.{◌≡◌, ◌≤◌, drop, length}
+use Rattle.mc_model.specs.Bits.{bits_of}
 use Rattle.mc_model.specs.Amplitude.{placed}
-use Rattle.mc_signal.specs.Outcomes.{bits_of}
 use Rattle.mc_run_text.proofs.outcomes.set_outcomes.Given as goal
 
 abbrev pub invariant-qubits : goal.invariant-qubits

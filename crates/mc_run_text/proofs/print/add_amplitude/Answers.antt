@@ -2,8 +2,8 @@ use Rattle.std.proofs.Common.{subst}
 use Rattle.mc_circuit.proofs.Operands.{OnOk_to}
 use Rattle.mc_cyclo.specs.Cyclo.{IsLong}
 use Rattle.mc_cyclo.proofs.RootLemmas.{permitted_quartered}
-use Rattle.mc_run_text.proofs.Reducing.{is_the_reduced}
-use Rattle.mc_run_text.proofs.Printing.{amplitude_behind}
+use Rattle.mc_run_text.proofs.RootReduction.{is_the_reduced}
+use Rattle.mc_run_text.proofs.WrittenLines.{amplitude_behind}
 use Rattle.mc_run_text.proofs.print.add_amplitude.Goals as goal
 
 pub returns : goal.returns

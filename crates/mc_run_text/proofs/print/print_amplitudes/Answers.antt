@@ -1,7 +1,7 @@
 use Rattle.std.proofs.Common.{◌^◌, map}
 use Rattle.mc_model.specs.Numbers.{numbers_from}
 use Rattle.mc_run_text.specs.Canonical.{amplitude_line}
-use Rattle.mc_run_text.proofs.Printing.{lines_more}
+use Rattle.mc_run_text.proofs.WrittenLines.{lines_more}
 use Rattle.mc_run_text.proofs.print.print_amplitudes.Goals as goal
 
 pub inputs-preserved : goal.inputs-preserved

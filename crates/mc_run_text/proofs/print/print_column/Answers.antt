@@ -1,5 +1,5 @@
 use Rattle.mc_run_text.specs.Canonical.{amplitude_line}
-use Rattle.mc_run_text.proofs.Printing.{line_more}
+use Rattle.mc_run_text.proofs.WrittenLines.{line_more}
 use Rattle.mc_run_text.proofs.print.print_column.Goals as goal
 
 pub outputs-preserved : goal.outputs-preserved

@@ -2,7 +2,7 @@ use Rattle.std.proofs.Common.{◌∙◌, sym, ap, arith, not}
 use Rattle.std.specs.Prelude.{None}
 use Rattle.std.specs.Option.{is_none}
 use Rattle.mc_run_text.specs.Canonical.{phase_at}
-use Rattle.mc_run_text.proofs.Printing.{any_at, none_more}
+use Rattle.mc_run_text.proofs.WrittenLines.{any_at, none_more}
 use Rattle.mc_run_text.proofs.report.is_any_apart.Goals as goal
 
 pub returns-then-is_none : goal.returns-then-is_none

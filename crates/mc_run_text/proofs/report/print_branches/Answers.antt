@@ -2,19 +2,16 @@ use Rattle.std.proofs.Common.{◌≡◌, ◌∙◌, subst, inl, inr, arith}
 use Rattle.std.proofs.lemmas.Bool.{cases_lt}
 use Rattle.mc_run.specs.Tables.{IsTable}
 use Rattle.mc_run_text.specs.Canonical.{table_at, branch_lines}
-use Rattle.mc_run_text.proofs.Printing.{lines_more, few_digits}
+use Rattle.mc_run_text.proofs.WrittenLines.{lines_more, few_digits}
 use Rattle.mc_run_text.proofs.report.print_branches.Goals as goal
 
 pub print_one-requires : goal.print_one-requires
 print_one-requires g c = (
   omega arith,
   (
-    c.requires.permitted,
-    (
-      few_digits c.args.measured c.branches-i-end.result
-          (c.branches-i-end.ensures ∙ c.requires.count) c.branches-i-end.type_inv,
-      omega (arith, c.branches-test.true, c.branches-i-end.ensures),
-    ),
+    few_digits c.args.measured c.branches-i-end.result (c.branches-i-end.ensures ∙ c.requires)
+        c.branches-i-end.type_inv,
+    omega (arith, c.branches-test.true, c.branches-i-end.ensures),
   ),
 )
 

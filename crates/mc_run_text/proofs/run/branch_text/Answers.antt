@@ -1,6 +1,6 @@
 use Rattle.std.proofs.Common.{◌∙◌}
-use Rattle.mc_signal.specs.Outcomes.{bits_of}
-use Rattle.mc_run_text.proofs.Meant.{branch_same}
+use Rattle.mc_model.specs.Bits.{bits_of}
+use Rattle.mc_run_text.proofs.PrintedMeaning.{branch_same}
 use Rattle.mc_run_text.proofs.run.branch_text.Goals as goal
 
 pub returns-in-Err-clause-limit : goal.returns-in-Err-clause-limit

@@ -1,7 +1,7 @@
 use Rattle.std.proofs.Common.{ap, ◌∙◌}
 use Rattle.std.specs.Prelude.{Err}
 use Rattle.mc_run_text.specs.Canonical.{report_text}
-use Rattle.mc_run_text.proofs.Meant.{report_same}
+use Rattle.mc_run_text.proofs.PrintedMeaning.{report_same}
 use Rattle.mc_run_text.proofs.run.run_all_text.Goals as goal
 
 pub returns-in-Ok-print_report-clause-text : goal.returns-in-Ok-print_report-clause-text

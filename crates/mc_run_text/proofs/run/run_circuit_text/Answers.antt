@@ -1,6 +1,6 @@
 use Rattle.std.proofs.Common.{ap, ◌∙◌}
 use Rattle.std.specs.Prelude.{Err}
-use Rattle.mc_run_text.proofs.Meant.{circuit_same}
+use Rattle.mc_run_text.proofs.PrintedMeaning.{circuit_same}
 use Rattle.mc_run_text.proofs.run.run_circuit_text.Goals as goal
 
 pub returns-in-Ok-print_table-clause-text : goal.returns-in-Ok-print_table-clause-text

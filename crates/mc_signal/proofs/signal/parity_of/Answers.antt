@@ -1,4 +1,4 @@
-use Rattle.mc_signal.specs.Outcomes.{bits_of}
+use Rattle.mc_model.specs.Bits.{bits_of}
 use Rattle.mc_signal.proofs.Values.{parity_step, parity_end}
 use Rattle.mc_signal.proofs.signal.parity_of.Goals as goal
 

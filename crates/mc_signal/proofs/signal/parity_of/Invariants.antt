@@ -1,6 +1,5 @@
 use Rattle.std.proofs.Common.{◌≡◌, drop}
-use Rattle.mc_model.specs.Bits.{◌⊻◌, parity}
-use Rattle.mc_signal.specs.Outcomes.{bits_of}
+use Rattle.mc_model.specs.Bits.{◌⊻◌, parity, bits_of}
 use Rattle.mc_signal.proofs.signal.parity_of.Given as goal
 
 abbrev pub invariant-members : goal.invariant-members

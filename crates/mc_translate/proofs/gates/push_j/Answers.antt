@@ -1,15 +1,20 @@
-use Rattle.std.proofs.Common.{refl, arith, length}
+use Rattle.std.proofs.Common.{◌≡◌, false, refl, arith, length, ap, ◌∙◌}
+use Rattle.mc_model.specs.Names.{is_held, fresh_name}
+use Rattle.mc_names.proofs.FreshNames.{fresh_is_fresh}
 use Rattle.mc_translate.proofs.FreeNames.{free_place}
 use Rattle.mc_translate.proofs.Fits.{ent_fits, meas_fits, fix_fits, room_two, room_three, room_four}
 use Rattle.mc_translate.proofs.gates.push_j.Goals as goal
 
 pub prep_free-requires : goal.prep_free-requires
 prep_free-requires g c =
-    let held = c.fresh-name.ensures.fresh.3 in
-    let p = c.args.builder.now in (
+    let p = c.args.builder.now in
+    let few = c.requires.names in
+    let held : is_held p.names c.fresh-name.result ≡ false =
+    ap (is_held p.names) (c.fresh-name.ensures ∙ ap fresh_name c.names.ensures.names)
+    ∙ (fresh_is_fresh p.names (omega arith)).3 in (
       omega arith,
       record {
-        new = free_place p.names c.fresh-name.result (rw c.names.ensures.names at held);
+        new = free_place p.names c.fresh-name.result held;
         few = c.requires.names;
         room = omega arith;
       },

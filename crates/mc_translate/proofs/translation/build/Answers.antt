@@ -3,7 +3,7 @@ use Rattle.std.proofs.lemmas.List.{drop_all}
 use Rattle.mc_circuit.specs.Gates.{plain_gate}
 use Rattle.mc_pattern.proofs.Lent.{come_back}
 use Rattle.mc_translate.specs.Steps.{qubit_of}
-use Rattle.mc_translate.proofs.Going.{going_start, going_at, going_step, going_ready, going_end}
+use Rattle.mc_translate.proofs.GatesLeft.{left_at_start, left_from, left_behind, left_ready, left_none}
 use Rattle.mc_translate.proofs.Outputs.{outputs_listed}
 use Rattle.mc_translate.proofs.translation.build.Goals as goal
 
@@ -16,16 +16,16 @@ gates-init g c =
       c.in_ok-builder.ensures,
       c.gates-gate-items.ensures,
     )
-    (going_start g.row.H c.args.circuit.now c.names.ensures.valid)
+    (left_at_start g.row.H c.args.circuit.now c.names.ensures.valid)
 
 pub push_gate-requires : goal.push_gate-requires
 push_gate-requires g c =
     let circuit = c.args.circuit.now in
     let gates = c.gates-gate-items.result.now in
     let here =
-    going_at (plain_gate {h = g.row.H}) g.row.H circuit c.gates.at.items c.gates.builder gates
+    left_from (plain_gate {h = g.row.H}) g.row.H circuit c.gates.at.items c.gates.builder gates
     c.gates.gate-index c.gate-item.result c.gates-test.true c.gate-item.is c.gates.invariant in
-    let ready = going_ready g.row.H circuit c.gates.at.items c.gates.builder _ _ c.requires here in
+    let ready = left_ready g.row.H circuit c.gates.at.items c.gates.builder _ _ c.requires here in
     (omega arith, (omega arith, rw c.deref_mut.ensures.value ready))
 
 pub gates-preserved : goal.gates-preserved
@@ -33,9 +33,9 @@ gates-preserved g c =
     let circuit = c.args.circuit.now in
     let gates = c.gates-gate-items.result.now in
     let here =
-    going_at (plain_gate {h = g.row.H}) g.row.H circuit c.gates.at.items c.gates.builder gates
+    left_from (plain_gate {h = g.row.H}) g.row.H circuit c.gates.at.items c.gates.builder gates
     c.gates.gate-index c.gate-item.result c.gates-test.true c.gate-item.is c.gates.invariant in
-    let next = going_step g.row.H circuit c.gates.at.items c.gates.builder _ _ here in
+    let next = left_behind g.row.H circuit c.gates.at.items c.gates.builder _ _ here in
     let lent = c.push_gate.auto.at in
     let long = rw c.deref_mut.ensures.value at lent in
     let back = come_back c.gates.at.items c.push_gate.new.at _ c.gates.at.ok.0 long in
@@ -70,7 +70,7 @@ returns g c =
     let none : drop c.gates.gate-index c.gates-gate-items.result.now ≡ [] = drop_all _ _ over in
     let done = rw none at c.gates.invariant in
     let valid = c.names.ensures.valid in
-    let ended = going_end g.row.H c.args.circuit.now c.gates.at.items c.gates.builder valid done in
+    let ended = left_none g.row.H c.args.circuit.now c.gates.at.items c.gates.builder valid done in
     rw (
       c.deref-2.ensures.value,
       c.in_ok-outputs.ensures,

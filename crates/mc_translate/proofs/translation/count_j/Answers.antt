@@ -1,7 +1,7 @@
 use Rattle.std.proofs.Common.{◌∙◌}
 use Rattle.std.proofs.lemmas.List.{take_all}
 use Rattle.mc_circuit.specs.Gates.{plain_gate}
-use Rattle.mc_translate.proofs.Counting.{j_count-map}
+use Rattle.mc_translate.proofs.JCounts.{j_count-map}
 use Rattle.mc_translate.proofs.translation.count_j.Goals as goal
 
 pub returns : goal.returns

@@ -1,7 +1,8 @@
 use Rattle.std.proofs.Common.{arith}
 use Rattle.mc_model.specs.Ring.{ring}
+use Rattle.mc_model.proofs.StepLemmas.{permitted_positive}
 use Rattle.mc_model.proofs.RingLemmas.{ring_laws}
-use Rattle.mc_translate.proofs.Counting.{few_j}
+use Rattle.mc_translate.proofs.JCounts.{few_j}
 use Rattle.mc_translate.proofs.TranslationLaw as Law
 use Rattle.mc_translate.proofs.translation.translate.Goals as goal
 
@@ -13,7 +14,8 @@ overflow_add-qubits g c =
     omega arith
 
 pub returns-in-Ok-clause-table : goal.returns-in-Ok-clause-table
-returns-in-Ok-clause-table g c = λ positive o y b.
+returns-in-Ok-clause-table g c = λ o y b.
+    let positive = permitted_positive g.row.H c.names.ensures.valid.permitted in
     rw c.in-Ok.ensures
     (Law.translation_keeps_table (ring g.row.H) (ring_laws g.row.H positive) c.args.circuit.now
     c.names.ensures.valid.valid o y b)

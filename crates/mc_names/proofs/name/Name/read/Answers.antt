@@ -1,6 +1,6 @@
 use Rattle.std.proofs.Common.{length, ap, sym, ◌∙◌, IsTrue, ◌++◌, drop, replicate, List, ℕ}
 use Rattle.mc_model.specs.Names.{is_name}
-use Rattle.mc_names.specs.Stored.{stored_name, short_name}
+use Rattle.mc_names.proofs.StoredNames.{stored_name, short_name}
 use Rattle.mc_names.proofs.name.Name.read.Goals as goal
 
 pub invariant_of-result : goal.invariant_of-result

@@ -27,8 +27,8 @@ numbers-preserved c =
       held = λ j p l. held_now c j p (omega arith);
     }
 
-pub returns-clause-computed : goal.returns-clause-computed
-returns-clause-computed c =
+pub returns : goal.returns
+returns c =
     let names = c.args.self.now in
     let free : is_held names (numbered c.numbers.number) ≡ false =
     rw (← c.numbered.ensures)

@@ -1,5 +1,5 @@
 use Rattle.std.proofs.Common.{sym}
-use Rattle.mc_signal.specs.Outcomes.{bits_of}
+use Rattle.mc_model.specs.Bits.{bits_of}
 use Rattle.mc_pattern.specs.Rules.{output_rule}
 use Rattle.mc_pattern.proofs.Built.{built_whole}
 use Rattle.mc_pattern.proofs.builder.Builder.finish.Goals as goal

@@ -1,4 +1,4 @@
-use Rattle.mc_signal.specs.Outcomes.{bits_of}
+use Rattle.mc_model.specs.Bits.{bits_of}
 use Rattle.mc_signal.proofs.Values.{value-of}
 use Rattle.mc_signal.proofs.signal.Signal.value.Goals as goal
 
