@@ -7,6 +7,7 @@
 #![tactic(auto)]
 
 mod fault;
+mod form;
 mod head;
 mod header;
 mod line;
@@ -17,6 +18,7 @@ mod section;
 mod tests;
 
 pub use fault::{Fault, Stop};
+pub use form::{Form, Turning};
 pub use head::Head;
 pub use header::{Header, Kinds, read_header};
 pub use point::{Mark, Point};

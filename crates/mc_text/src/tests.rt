@@ -1,8 +1,8 @@
 //! Sections without rules of their own, headers, and the words that kinds share.
 
 use crate::{
-    Fault, Head, Kinds, Mark, Point, Section, Stop, angle, define, fixed, known, number,
-    read_header, read_section, unlisted,
+    Fault, Form, Head, Header, Kinds, Mark, Point, Section, Stop, Turning, angle, define, fixed,
+    known, number, read_header, read_section, unlisted,
 };
 use mc_angle::Angle;
 use mc_lex::{Kind, TextEnd, Words};
@@ -47,9 +47,11 @@ fn sections(rt: HostRuntime) {
     );
 }
 
-/// Any kind.
+/// Any kind, in this form.
 #[derive(Clone, Copy)]
-struct All;
+struct All {
+    form: Form,
+}
 
 impl Kinds for All {
     ghost use Rattle.std.specs.Prelude.{None};
@@ -59,6 +61,8 @@ impl Kinds for All {
 
     ghost unknown = { λ _. NoKind };
 
+    ghost form = { λ k kind. k.form };
+
     fn refused(&self, _kind: Kind) -> Option<Fault> {
         None
     }
@@ -66,25 +70,54 @@ impl Kinds for All {
     fn unknown(&self) -> Fault {
         Fault::NoKind
     }
+
+    fn form(&self, _kind: Kind) -> Form {
+        self.form
+    }
+}
+
+fn header(form: Form, text: &str) -> Result<Header, TextEnd> {
+    let mut words = Words::new(text.as_bytes());
+    words.next_line();
+    read_header(&All { form }, &mut words)
 }
 
 #[test]
 fn headers(rt: HostRuntime) {
-    for (text, end) in [
-        ("circle 1", Fault::NoKind.at(1, 1)),
-        ("circuit", Fault::LineEnds.at(1, 8)),
-        ("circuit 01", Fault::NotVersion.at(1, 9)),
-        (" circuit 1 # \n", Fault::Surplus.at(9, 9)),
-        ("circuit 1 turn", Fault::Surplus.at(1, 11)),
+    let said = Form {
+        second: true,
+        turning: Turning::Said,
+    };
+    let like = Form {
+        second: false,
+        turning: Turning::Like(4),
+    };
+    for (form, text, end) in [
+        (said, "circle 1", Fault::NoKind.at(1, 1)),
+        (said, "circuit", Fault::LineEnds.at(1, 8)),
+        (said, "circuit 01", Fault::NotVersion.at(1, 9)),
+        (like, "circuit 2", Fault::NotVersion.at(1, 9)),
+        (
+            Form::plain(),
+            " circuit 1 turn 8 # \n",
+            Fault::Surplus.at(1, 12),
+        ),
+        (said, "circuit 1 turn", Fault::LineEnds.at(1, 15)),
+        (said, "circuit 1 turn 08", Fault::NotNumber.at(1, 16)),
+        (like, "circuit 1 turn 16 8", Fault::StepDiffers.at(1, 16)),
+        (said, "circuit 1 turn 16 8", Fault::Surplus.at(1, 19)),
     ] {
-        let mut words = Words::new(text.as_bytes());
-        assert!(rt; words.next_line());
-        match read_header(&All, &mut words) {
-            Ok(header) => {
-                assert_eq!(rt; header.kind, Kind::Circuit);
-                assert_eq!(rt; (header.line, header.column), (1, 2));
-            }
-            Err(found) => assert_eq!(rt; found, end),
+        assert_eq!(rt; header(form, text), Err(end));
+    }
+    for (form, text, version, half) in [
+        (Form::plain(), "\tcircuit 1 # 2", 1, 4),
+        (said, "\ncircuit 2 turn 16\nin", 2, 8),
+        (like, " circuit 1 turn 8", 1, 4),
+    ] {
+        let found = header(form, text);
+        assert!(rt; found.is_ok());
+        if let Ok(header) = found {
+            assert_eq!(rt; (header.version, header.half), (version, half));
         }
     }
 }

@@ -11,7 +11,7 @@ use Rattle.mc_model.specs.Pattern as plain
 use Rattle.mc_text.specs.declared.fault.Fault.{Fault}
 use Rattle.mc_text.specs.declared.fault.Fault.TheVariants.{NoKind, BehindEnd}
 use Rattle.mc_text.specs.Judged.{Judgement, Place, fault, placed, or_later, words_of, first_in_section, section_lines, behind_section}
-use Rattle.mc_text.specs.Headers.{first_in_header, IsHeader}
+use Rattle.mc_text.specs.Headers.{plain_forms, first_in_header, IsHeader}
 use Rattle.mc_text.specs.Stops.{IsEnd}
 use Rattle.mc_pattern_text.specs.ChangeJudge.{change_rules}
 use Rattle.mc_pattern_text.specs.ChangeValue.{rows_of}
@@ -26,7 +26,7 @@ header_kind kind place (bad line column ∷ items) h = absurd h
 
 first_by_kind : (half : ℕ) (takes : Takes) (lines : List Line) (end : Place) (kind : Kind)
     (place : Place) → has_line lines ≡ true → IsHeader kind place (on_first lines end).here →
-    first_in_header (refused_kind takes) NoKind (on_first lines end).here (on_first lines end).lack
+    first_in_header (refused_kind takes) NoKind plain_forms (on_first lines end).here (on_first lines end).lack
     ≡ None →
     first_in_lines half takes lines end
     ≡ first_in_kind half (Some kind) (on_first lines end).later end
@@ -63,14 +63,14 @@ opens_text text begun opened headed kind place o =
 
 pub opened_first : (half : ℕ) (takes : Takes) (text : List ℕ) (begun opened headed : Left)
     (kind : Kind) (place : Place) → IsOpened text begun opened headed kind place →
-    first_in_header (refused_kind takes) NoKind opened.here opened.lack ≡ None →
+    first_in_header (refused_kind takes) NoKind plain_forms opened.here opened.lack ≡ None →
     first_in_text half takes text ≡ first_in_kind half (Some kind) headed.later headed.last
 opened_first half takes text begun opened headed kind place o clean =
     let some = rw o.begins at o.some in
     let opens = opens_text text begun opened headed kind place o in
     let header = subst (λ (left : Left). IsHeader kind place left.here) opens o.header in
     let none = subst
-    (λ (left : Left). first_in_header (refused_kind takes) NoKind left.here left.lack ≡ None)
+    (λ (left : Left). first_in_header (refused_kind takes) NoKind plain_forms left.here left.lack ≡ None)
     opens clean in
     let later : headed.later ≡ (on_first (lines_of text) (end_of text)).later =
     o.later ∙ ap (λ (left : Left). left.later) opens in
@@ -111,7 +111,7 @@ unrefused takes kind place later (Some broken) e clean = absurd (cc clean)
 
 pub starts : (takes : Takes) (items : List Item) (lack : Place) (kind : Kind) (place : Place) →
     IsHeader kind place items →
-    first_in_header (refused_kind takes) NoKind items lack ≡ None → StartsDocument kind
+    first_in_header (refused_kind takes) NoKind plain_forms items lack ≡ None → StartsDocument kind
 starts takes [] lack kind place h clean = absurd h
 starts takes (word bytes line column ∷ items) lack kind place h clean =
     starts_kind takes kind
@@ -122,12 +122,12 @@ starts takes (bad line column ∷ items) lack kind place h clean = absurd h
 pub record IsBehind (lines : List Line) (end : Place) (opened headed : Left) : Type 0 where
   pub some : has_line lines ≡ true
   pub opens : opened ≡ on_first lines end
-  pub clean : first_in_header refused_behind BehindEnd opened.here opened.lack ≡ None
+  pub clean : first_in_header refused_behind BehindEnd plain_forms opened.here opened.lack ≡ None
   pub later : headed.later ≡ opened.later
   pub last : headed.last ≡ opened.last
 
 first_in_change : (p : plain.Pattern) (lines : List Line) (end : Place) → has_line lines ≡ true →
-    first_in_header refused_behind BehindEnd (on_first lines end).here (on_first lines end).lack
+    first_in_header refused_behind BehindEnd plain_forms (on_first lines end).here (on_first lines end).lack
     ≡ None →
     first_behind_pattern p lines end
     ≡ or_later (first_in_section (change_rules p) [] (on_first lines end).later end)
@@ -142,7 +142,7 @@ pub behind_first : (p : plain.Pattern) (lines : List Line) (end : Place) (opened
     (first_behind (behind_section headed.later))
 behind_first p lines end opened headed b =
     let none = subst
-    (λ (left : Left). first_in_header refused_behind BehindEnd left.here left.lack ≡ None)
+    (λ (left : Left). first_in_header refused_behind BehindEnd plain_forms left.here left.lack ≡ None)
     b.opens b.clean in
     let later : headed.later ≡ (on_first lines end).later =
     b.later ∙ ap (λ (left : Left). left.later) b.opens in

@@ -8,7 +8,7 @@ use Rattle.mc_lex.specs.Lines.{Item, word, bad, Line, lines_of, end_of}
 use Rattle.mc_text.specs.declared.fault.Fault.{Fault}
 use Rattle.mc_text.specs.declared.fault.Fault.TheVariants.{NoKind}
 use Rattle.mc_text.specs.Judged.{Judgement, Place, fault, placed, or_later, words_of}
-use Rattle.mc_text.specs.Headers.{kind_judge, first_in_header}
+use Rattle.mc_text.specs.Headers.{kind_judge, plain_forms, first_in_header}
 use Rattle.mc_top.specs.declared.takes.Takes.{Takes}
 use Rattle.mc_top.specs.Documents.{unless_taken, refused_kind, kind_in, first_in_lines, first_in_text, spelled, spelled_lines, spelled_in_kind, Spells}
 
@@ -46,7 +46,7 @@ by_judge half takes (Some kind) place lines h =
     by_kind half takes kind lines (unrefused place (refused_kind takes kind) h)
 
 by_header : (half : ℕ) (takes : Takes) (items : List Item) (lack : Place) (lines : List Line) →
-    first_in_header (refused_kind takes) NoKind items lack ≡ None →
+    first_in_header (refused_kind takes) NoKind plain_forms items lack ≡ None →
     Spells takes (spelled_in_kind half (kind_in (words_of items)) lines)
 by_header half takes [] lack lines h = absurd (cc h)
 by_header half takes (word bytes line column ∷ items) lack lines h =

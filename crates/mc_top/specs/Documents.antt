@@ -9,7 +9,7 @@ use Rattle.mc_model.specs.Shift.{ChangeRow}
 use Rattle.mc_text.specs.declared.fault.Fault.{Fault}
 use Rattle.mc_text.specs.declared.fault.Fault.TheVariants.{NoKind, KindNotTaken, BehindEnd}
 use Rattle.mc_text.specs.Judged.{Judgement, fault, Place, Words, Rules, or_later, words_of, first_in_line, first_in_section, section_lines, behind_section}
-use Rattle.mc_text.specs.Headers.{first_in_header}
+use Rattle.mc_text.specs.Headers.{plain_forms, first_in_header}
 use Rattle.mc_circuit.specs.Judge.{circuit_rules}
 use Rattle.mc_circuit.specs.Value.{circuit_of}
 use Rattle.mc_pattern_text.specs.Judge.{pattern_rules}
@@ -54,7 +54,7 @@ first_behind (line ∷ lines) = first_in_line nothing_more [] [] line.items line
 abbrev pub first_behind_pattern : plain.Pattern → List Line → Place → Option (Judgement × Place)
 first_behind_pattern p [] end = None
 first_behind_pattern p (line ∷ lines) end =
-    or_later (first_in_header refused_behind BehindEnd line.items line.lack)
+    or_later (first_in_header refused_behind BehindEnd plain_forms line.items line.lack)
     (or_later (first_in_section (change_rules p) [] lines end)
     (first_behind (behind_section lines)))
 
@@ -77,7 +77,7 @@ first_in_kind half _ lines end = None
 abbrev pub first_in_lines : ℕ → Takes → List Line → Place → Option (Judgement × Place)
 first_in_lines half takes [] end = Some (fault NoKind, end)
 first_in_lines half takes (line ∷ lines) end =
-    or_later (first_in_header (refused_kind takes) NoKind line.items line.lack)
+    or_later (first_in_header (refused_kind takes) NoKind plain_forms line.items line.lack)
     (first_in_kind half (kind_in (words_of line.items)) lines end)
 
 abbrev pub first_in_text : ℕ → Takes → List ℕ → Option (Judgement × Place)

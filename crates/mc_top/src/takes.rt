@@ -4,7 +4,7 @@ ghost use Rattle.std.specs.Prelude.{◌≡◌};
 ghost use Rattle.mc_top.specs.Documents.{refused_kind, unless_taken};
 
 use mc_lex::Kind;
-use mc_text::{Fault, Kinds};
+use mc_text::{Fault, Form, Kinds};
 
 /// The kinds of document that a command takes. A change may stand behind a pattern.
 #[derive(Clone, Copy, Debug, PartialEq, Eq)]
@@ -25,12 +25,15 @@ fn unless_taken(taken: bool) -> Option<Fault>
 }
 
 impl Kinds for Takes {
+    ghost use Rattle.mc_text.specs.Headers.{plain_forms};
     ghost use Rattle.mc_text.specs.declared.fault.Fault.TheVariants.{NoKind};
     ghost use Rattle.mc_top.specs.Documents.{refused_kind};
 
     ghost refused = { refused_kind };
 
     ghost unknown = { λ _. NoKind };
+
+    ghost form = { λ _. plain_forms };
 
     fn refused(&self, kind: Kind) -> Option<Fault> {
         match kind {
@@ -44,6 +47,10 @@ impl Kinds for Takes {
     fn unknown(&self) -> Fault {
         Fault::NoKind
     }
+
+    fn form(&self, _kind: Kind) -> Form {
+        Form::plain()
+    }
 }
 
 /// The kinds of section that may stand behind a pattern.
@@ -51,12 +58,15 @@ impl Kinds for Takes {
 pub(crate) struct BehindPattern;
 
 impl Kinds for BehindPattern {
+    ghost use Rattle.mc_text.specs.Headers.{plain_forms};
     ghost use Rattle.mc_text.specs.declared.fault.Fault.TheVariants.{BehindEnd};
     ghost use Rattle.mc_top.specs.Documents.{refused_behind};
 
     ghost refused = { λ _. refused_behind };
 
     ghost unknown = { λ _. BehindEnd };
+
+    ghost form = { λ _. plain_forms };
 
     fn refused(&self, kind: Kind) -> Option<Fault> {
         match kind {
@@ -67,5 +77,9 @@ impl Kinds for BehindPattern {
 
     fn unknown(&self) -> Fault {
         Fault::BehindEnd
+    }
+
+    fn form(&self, _kind: Kind) -> Form {
+        Form::plain()
     }
 }

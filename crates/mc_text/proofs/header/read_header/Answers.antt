@@ -1,8 +1,7 @@
-use Rattle.std.proofs.Common.{◌≡◌, ◌∙◌, [], None, refl, sym}
+use Rattle.std.proofs.Common.{◌∙◌, refl, sym}
 use Rattle.mc_lex.proofs.Further.{further-same, further-token, further-further}
-use Rattle.mc_text.specs.Headers.{header_rules}
 use Rattle.mc_text.proofs.Going.{first-cons}
-use Rattle.mc_text.proofs.Heading.{first_step}
+use Rattle.mc_text.proofs.Heading.{header_goes}
 use Rattle.mc_text.proofs.header.read_header.Goals as goal
 
 pub returns-in-Some-refused-clause-further : goal.returns-in-Some-refused-clause-further
@@ -28,31 +27,30 @@ returns-in-Some-refused-clause-err g c =
 
 pub returns-in-Ok-clause-clean : goal.returns-in-Ok-clause-clean
 returns-in-Ok-clause-clean g c =
-    let kinds = g.K.Kinds in
-    let rules =
-    header_rules (kinds.refused c.args.kinds.now) (kinds.unknown c.args.kinds.now) in
-    let w = c.in-Word.word in
-    let kind = sym c.in-Some.ensures in
-    let refused = sym c.in_default-refused.ensures in
-    let clean : rules.judge [] [] w.bytes.now ≡ None = rw (kind, refused) refl in
-    first_step rules [] [] c.args.words.now c.next.new.self w.bytes.now w.line w.column
-    c.in-Word.ensures.token c.in-Word.ensures.left clean
-    ∙ c.in-Ok.ensures.clean w.bytes.now
+    header_goes _ _ _ c.args.words.now c.next.new.self _ _ _ _ _ c.in-Word.ensures.token
+    c.in-Word.ensures.left (sym c.in-Some.ensures) (sym c.in_default-refused.ensures) c.form.ensures
+    ∙ c.in-Ok.ensures.clean
 
 pub returns-in-Ok-clause-header : goal.returns-in-Ok-clause-header
 returns-in-Ok-clause-header g c =
     let front = first-cons c.args.words.now.here _ c.in-Word.ensures.token in
     rw front (sym c.in-Some.ensures, refl)
 
+pub returns-in-Ok-clause-version : goal.returns-in-Ok-clause-version
+returns-in-Ok-clause-version g c =
+    let front = first-cons c.args.words.now.here _ c.in-Word.ensures.token in
+    let rest = rw c.in-Word.ensures.left at c.in-Ok.ensures.version in
+    rw front rest
+
+pub returns-in-Ok-clause-half : goal.returns-in-Ok-clause-half
+returns-in-Ok-clause-half g c =
+    let front = first-cons c.args.words.now.here _ c.in-Word.ensures.token in
+    let rest = rw c.in-Word.ensures.left at c.in-Ok.ensures.half in
+    rw front rest
+
 pub returns-in-Err-clause-err : goal.returns-in-Err-clause-err
 returns-in-Err-clause-err g c =
-    let kinds = g.K.Kinds in
-    let rules =
-    header_rules (kinds.refused c.args.kinds.now) (kinds.unknown c.args.kinds.now) in
-    let w = c.in-Word.word in
-    let kind = sym c.in-Some.ensures in
-    let refused = sym c.in_default-refused.ensures in
-    let clean : rules.judge [] [] w.bytes.now ≡ None = rw (kind, refused) refl in
-    let step = first_step rules [] [] c.args.words.now c.next.new.self w.bytes.now w.line w.column
-    c.in-Word.ensures.token c.in-Word.ensures.left clean in
-    rw step (c.in-Err.ensures.err w.bytes.now)
+    let goes = header_goes (g.K.Kinds.refused c.args.kinds.now) (g.K.Kinds.unknown c.args.kinds.now)
+    (g.K.Kinds.form c.args.kinds.now) c.args.words.now c.next.new.self _ _ _ _ _ c.in-Word.ensures.token
+    c.in-Word.ensures.left (sym c.in-Some.ensures) (sym c.in_default-refused.ensures) c.form.ensures in
+    rw goes c.in-Err.ensures.err
