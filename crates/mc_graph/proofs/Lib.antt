@@ -1,10 +1,14 @@
 pub mod ListedNumbers
-pub mod Outputs
+pub mod OutputAngles
 pub mod MappedReads
 pub mod RisingEdges
 pub mod Joined
 pub mod Lent
 pub mod OwnVertices
+pub mod PairLists
+pub mod BuiltGraphs
+pub mod StoredGraphs
+pub mod FinishedGraphs
 pub mod GraphScale
 pub mod KeptBranch
 pub mod PatternGraphs

@@ -19,3 +19,16 @@ map_more f n =
     ap (λ (k : ℕ). map f (numbers_from 0 k)) e
     ∙ ap (map f) (numbers_below-last n)
     ∙ map-append f (numbers_from 0 n) (n ∷ [])
+
+pub read_from : {A : Type 0} (f : ℕ → A) (q n v : ℕ) (d : A) → v < n →
+    slice_index_or (map f (numbers_from q n)) v d ≡ f (q + v)
+read_from f q zero v d l = absurd (omega arith)
+read_from f q (suc n) zero d l = let e : q ≡ q + 0 = omega arith in ap f e
+read_from f q (suc n) (suc v) d l =
+    let e : suc q + v ≡ q + suc v = omega arith in
+    read_from f (suc q) n v d (omega arith) ∙ ap f e
+
+pub read_numbered : {A : Type 0} (f : ℕ → A) (n v : ℕ) (d : A) → v < n →
+    slice_index_or (map f (numbers_from 0 n)) v d ≡ f v
+read_numbered f n v d l =
+    let e : 0 + v ≡ v = omega arith in read_from f 0 n v d l ∙ ap f e

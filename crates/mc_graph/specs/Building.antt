@@ -5,7 +5,7 @@ use Rattle.mc_model.specs.Names.{Name, AreNames, place_of}
 use Rattle.mc_model.specs.Numbers.{pairs_below}
 use Rattle.mc_model.specs.Steps.{is_permitted}
 use Rattle.mc_model.specs.Graph.{OpenGraph, edge, Fixed, not_fixed, size, joins, EdgesRise, base_angle}
-use Rattle.mc_graph.specs.Links.{linked}
+use Rattle.mc_graph.specs.Links.{linked, AreLinks}
 use Rattle.mc_graph.specs.declared.label.Label.{Label}
 use Rattle.mc_graph.specs.Graphs.{plain_fixed}
 
@@ -74,4 +74,5 @@ graph_so_far names inputs links labels = record {
 -- only vertices are joined
 pub record IsBuilt (half : ℕ) (g : OpenGraph) (links : List Bool) : Type 0 where
   pub begun : IsBegun half g
+  pub either : AreLinks links
   pub vertices : (v w : ℕ) → linked links v w ≡ true → v < size g

@@ -3,6 +3,7 @@
 //! An open graph is seen as the model's record of names, inputs, outputs, edges, base angles and fixed corrections.
 #![tactic(auto)]
 
+mod builder;
 mod end;
 mod fixed;
 mod flow;
@@ -10,9 +11,11 @@ mod graph;
 mod label;
 mod laws;
 mod links;
+mod outputs;
 mod refuter;
 mod stuck;
 
+pub use builder::{GraphBuilder, GraphEnd};
 pub use end::RowEnd;
 pub use fixed::Fixed;
 pub use flow::{FlowRow, GFlow};

@@ -61,7 +61,8 @@ fn toggle_marks(marks: &mut [bool], v: u16, w: u16)
 impl Links {
     /// No vertices that are joined.
     pub(crate) fn new(alloc: Global) -> Result<Links, Memory>
-        ensures { IfOk result (λ links. (v w : ℕ) → linked links v w ≡ false) }
+        ensures none { IfOk result (λ links. (v w : ℕ) → linked links v w ≡ false) }
+        ensures valid { IfOk result (λ links. AreLinks links) }
     {
         match vec![in alloc; false; 65_536] {
             Ok(marks) => Ok(Links { marks }),
@@ -80,7 +81,8 @@ impl Links {
     /// Joins two vertices, or parts them where they are joined.
     pub(crate) fn toggle(&mut self, v: u16, w: u16)
         requires { (v < 256) × (w < 256) × (v ≢ w) }
-        ensures { (i j : ℕ) → linked self.new i j ≡ (same_pair i j v w ⊻ linked self.old i j) }
+        ensures pairs { (i j : ℕ) → linked self.new i j ≡ (same_pair i j v w ⊻ linked self.old i j) }
+        ensures valid { AreLinks self.new }
     {
         toggle_marks(&mut self.marks, v, w);
     }

@@ -7,4 +7,4 @@ mod once;
 mod tests;
 
 pub use choose::push_if;
-pub use once::lists_once;
+pub use once::{count, lists_once};

@@ -5,7 +5,7 @@ ghost use Rattle.std.specs.Prelude.{cond, slice_index_or, false};
 ghost use Rattle.mc_model.specs.Numbers.{ListsOnce};
 
 /// How often a number stands in a list.
-fn count(numbers: &[u16], number: u16) -> usize
+pub fn count(numbers: &[u16], number: u16) -> usize
     ensures { result ≡ count_by (nat_eq number) numbers.now }
 {
     numbers.iter().filter(|other| number == **other).count()

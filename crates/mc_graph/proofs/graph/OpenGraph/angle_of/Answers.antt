@@ -3,7 +3,7 @@ use Rattle.std.specs.Prelude.{is_none, None}
 use Rattle.std.proofs.lemmas.List.{length-map}
 use Rattle.std.proofs.lemmas.Option.{unwrap_or-slice_get}
 use Rattle.mc_graph.proofs.MappedReads.{read_mapped}
-use Rattle.mc_graph.proofs.Outputs.{output_without_angle, angle_within}
+use Rattle.mc_graph.proofs.OutputAngles.{output_without_angle, angle_within}
 use Rattle.mc_graph.proofs.graph.OpenGraph.angle_of.Goals as goal
 
 pub returns-clause-angle : goal.returns-clause-angle
