@@ -9,3 +9,4 @@ pub mod Sections
 pub mod Written
 pub mod Clean
 pub mod Naming
+pub mod HeadersBack

@@ -1,10 +1,10 @@
 -- The header of a section: a line of its kind and its version, and where that is permitted of the
 -- word `turn` and the number of steps in a turn.
-use Rattle.std.specs.Prelude.{◌≡◌, ℕ, List, [], ◌∷◌, Bool, true, false, not, ◌&&◌, ◌||◌, nat_eq}
+use Rattle.std.specs.Prelude.{◌≡◌, ℕ, List, [], ◌∷◌, Bool, true, false, not, ◌&&◌, ◌||◌, nat_eq, ◌==◌, ◌⊎◌}
 use Rattle.std.specs.Prelude.{codes, if◌then◌else◌, Option, None, Some}
 use Rattle.std.specs.Option.{option_map}
 use Rattle.mc_lex.specs.declared.kind.Kind.{Kind}
-use Rattle.mc_lex.specs.Kinds.{kind_of}
+use Rattle.mc_lex.specs.Kinds.{kind_of, spelling}
 use Rattle.mc_lex.specs.Lines as lex
 use Rattle.mc_lex.specs.Lines.{Item}
 use Rattle.mc_text.specs.declared.fault.Fault.{Fault}
@@ -134,6 +134,27 @@ version_in (kind ∷ words) = version_behind words
 abbrev pub half_in : Words → ℕ
 half_in [] = 4
 half_in (kind ∷ words) = half_behind words
+
+abbrev pub kind_in : Words → Option Kind
+kind_in [] = None
+kind_in (kind ∷ words) = kind_of kind
+
+-- the words of a header, as they are printed
+abbrev pub version_word : ℕ → List ℕ
+version_word version = if version == 2 then codes "2" else codes "1"
+
+abbrev pub turn_words : ℕ → Words
+turn_words half = if half == 8 then codes "turn" ∷ codes "16" ∷ [] else []
+
+abbrev pub header_words : Kind → ℕ → ℕ → Words
+header_words kind version half = spelling kind ∷ version_word version ∷ turn_words half
+
+-- the versions, and the numbers of steps in half a turn
+abbrev pub IsVersion : ℕ → Type 0
+IsVersion version = (version ≡ 1) ⊎ (version ≡ 2)
+
+abbrev pub IsHalf : ℕ → Type 0
+IsHalf half = (half ≡ 4) ⊎ (half ≡ 8)
 
 -- what is kept of the words behind the kind
 pub record Says (k : Behind) (words : Words) : Type 0 where

@@ -12,6 +12,7 @@ mod head;
 mod header;
 mod line;
 mod point;
+mod print;
 mod rule;
 mod section;
 #[cfg(test)]
@@ -22,5 +23,6 @@ pub use form::{Form, Turning};
 pub use head::Head;
 pub use header::{Header, Kinds, read_header};
 pub use point::{Mark, Point};
+pub use print::{headers_are_read, print_header};
 pub use rule::{angle, define, fixed, known, number, unlisted};
 pub use section::{Section, read_section};

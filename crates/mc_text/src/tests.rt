@@ -2,12 +2,13 @@
 
 use crate::{
     Fault, Form, Head, Header, Kinds, Mark, Point, Section, Stop, Turning, angle, define, fixed,
-    known, number, read_header, read_section, unlisted,
+    headers_are_read, known, number, print_header, read_header, read_section, unlisted,
 };
 use mc_angle::Angle;
 use mc_lex::{Kind, TextEnd, Words};
 use mc_model::Memory;
 use mc_names::Names;
+use std::process::Abort;
 use std::test::Fail;
 
 /// A section that takes every word.
@@ -76,7 +77,8 @@ impl Kinds for All {
     }
 }
 
-fn header(form: Form, text: &str) -> Result<Header, TextEnd> {
+fn header(rt: &impl Abort, form: Form, text: &str) -> Result<Header, TextEnd> {
+    assert!(rt; text.len() < 100);
     let mut words = Words::new(text.as_bytes());
     words.next_line();
     read_header(&All { form }, &mut words)
@@ -107,19 +109,29 @@ fn headers(rt: HostRuntime) {
         (like, "circuit 1 turn 16 8", Fault::StepDiffers.at(1, 16)),
         (said, "circuit 1 turn 16 8", Fault::Surplus.at(1, 19)),
     ] {
-        assert_eq!(rt; header(form, text), Err(end));
+        assert_eq!(rt; header(&rt, form, text), Err(end));
     }
     for (form, text, version, half) in [
         (Form::plain(), "\tcircuit 1 # 2", 1, 4),
         (said, "\ncircuit 2 turn 16\nin", 2, 8),
         (like, " circuit 1 turn 8", 1, 4),
     ] {
-        let found = header(form, text);
+        let found = header(&rt, form, text);
         assert!(rt; found.is_ok());
         if let Ok(header) = found {
             assert_eq!(rt; (header.version, header.half), (version, half));
         }
     }
+}
+
+#[test]
+fn headers_are_printed(rt: HostRuntime) -> Result<(), Memory> {
+    let mut text = Vec::new(rt.alloc());
+    print_header(&mut text, Kind::Circuit, 1, 4)?;
+    print_header(&mut text, Kind::Pattern, 2, 8)?;
+    assert!(rt; text.as_slice() == b"circuit 1\npattern 2 turn 16\n".as_slice());
+    headers_are_read();
+    Ok(())
 }
 
 #[test]
