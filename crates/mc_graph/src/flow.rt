@@ -18,6 +18,7 @@ struct KeptRow {
 }
 
 /// A vertex, its layer, and the set that corrects it.
+#[derive(Clone, Copy)]
 pub struct FlowRow<'a> {
     pub vertex: u16,
     pub layer: u32,
@@ -62,7 +63,8 @@ impl GFlow {
         }
     }
 
-    fn has(&self, vertex: u16) -> bool
+    /// Whether a vertex has a row.
+    pub fn has(&self, vertex: u16) -> bool
         ensures { result ≡ has_line (λ r. r.vertex) self.now.rows vertex }
     {
         has_row(&self.rows, vertex)

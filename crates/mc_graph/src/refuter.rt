@@ -51,7 +51,8 @@ impl Refuter {
         }
     }
 
-    fn has(&self, vertex: u16) -> bool
+    /// Whether a vertex has a row.
+    pub fn has(&self, vertex: u16) -> bool
         ensures { result ≡ has_line (λ r. r.vertex) self.now vertex }
     {
         has_row(&self.rows, vertex)

@@ -1,0 +1,11 @@
+mod ListTests
+mod OddRows
+mod RuleLoops
+mod RowLemmas
+mod RuleLemmas
+mod FlowLaw
+mod RefuterLaw
+mod OnlyNeighbours
+mod StuckLaw
+mod BoundLaw
+mod FewRows

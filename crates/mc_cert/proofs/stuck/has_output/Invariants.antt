@@ -1,0 +1,9 @@
+use Rattle.std.proofs.Common.{◌≡◌, drop}
+use Rattle.std.specs.List.{list_any}
+use Rattle.mc_model.specs.Graph.{is_output}
+use Rattle.mc_cert.proofs.stuck.has_output.Given as goal
+
+abbrev pub invariant-members : goal.invariant-members
+invariant-members g l =
+    let p = is_output l.g in
+    list_any p (drop l.i l.set) ≡ list_any p l.set
