@@ -28,7 +28,7 @@ one_more a s n false = without a (s n)
 
 pub parity_where : (p s : Bits) (n : ℕ) →
     parity (numbers_where p n) s ≡ odd n (λ w. s w && p w)
-unfolding parity
+unfolding parity odd
 parity_where p s zero = refl
 parity_where p s (suc n) =
     ap (λ (ps : List ℕ). parity ps s) (numbers_where-last p n)
