@@ -1,12 +1,13 @@
 -- A word and a line of a row with nothing against them are kept.
 use Rattle.std.proofs.Common.{◌≡◌, ℕ, suc, ◌+◌, List, [], ◌∷◌, ◌++◌, Bool, true, false, ◌&&◌, length, refl}
-use Rattle.std.proofs.Common.{sym, ap, ◌∙◌, arith, ◌==◌, if◌then◌else◌, Option, Some, None, codes}
+use Rattle.std.proofs.Common.{sym, ap, ◌∙◌, arith, ◌==◌, if◌then◌else◌, Option, Some, None, codes, ◌⊎◌, inl, inr}
 use Rattle.std.specs.List.{list_all, filter_map}
 use Rattle.std.proofs.lemmas.Bool.{eqb-true}
 use Rattle.std.proofs.lemmas.List.{append-nil}
 use Rattle.std.proofs.lemmas.List.Elements.{filter_map-append}
 use Rattle.std.proofs.lemmas.List.Folds.{list_all-append}
 use Rattle.mc_model.specs.Names.{Name, is_held}
+use Rattle.mc_model.specs.Numbers.{is_member}
 use Rattle.mc_angle.specs.Number.{number_of}
 use Rattle.mc_text.specs.declared.head.Head.{Head}
 use Rattle.mc_text.specs.declared.point.Point.{Point}
@@ -107,13 +108,16 @@ module _ (kind : Kind) (names : List Name) (holds : List Row → Type 0) where
       → ((a : List ℕ) (rest : Words)
       → words_in is_name kind.shape (h ∷ (words ++ w ∷ [])) ≡ a ∷ rest
       → kind.bars.named (rows_in kind.shape names before) row'.head row'.number row'.name ≡ None)
+      → ((q : ℕ) → is_member row'.set q ≡ true
+      → kind.bars.listed (rows_in kind.shape names before) q ≡ None)
       → IsKept kind names holds row' before ((h ∷ words) ++ w ∷ [])
-  kept_more row row' before h words w m same held free = record {
+  kept_more row row' before h words w m same held free listed = record {
     held_rows = m.held_rows;
     row_is = same;
     held = held;
     head = λ h' rest e. let first : h ≡ h' = cc e in rw (← first) (m.head h words refl);
     named = free;
+    listed = listed;
   }
 
   pub took_head : (row row' : Row) (before : Lines) (here : Words) (p : Point) (w : List ℕ)
@@ -134,6 +138,9 @@ module _ (kind : Kind) (names : List Name) (holds : List Row → Type 0) where
               let first : w ≡ h = cc eq in
               rw (← first) (bar_free (kind.follows p.last (head_of w)) refl none);
           named = λ a words eq. absurd (cc eq);
+          listed = λ q member.
+              let member' = rw (same, m.row_is, no_members names) at member in
+              absurd (cc member');
         },
       )
     where
@@ -160,7 +167,8 @@ module _ (kind : Kind) (names : List Name) (holds : List Row → Type 0) where
         (same ∙ sym (row_in-more kind.shape names before h [] p w role.Number e is ∙ rw m.row_is refl))
         (rw (words_in-more is_listed kind.shape before h [] p w role.Number e is) refl)
         (λ a rest some. let some' = rw
-        (words_in-more is_name kind.shape before h [] p w role.Number e is) at some in absurd (cc some')),
+        (words_in-more is_name kind.shape before h [] p w role.Number e is) at some in absurd (cc some'))
+        (λ q member. m.listed q (rw same at member)),
   )
   took_number row row' before (h ∷ b ∷ words) p w is clean same m e =
       let one = number_first (kind.shape (head_of h)) (1 + length (b ∷ words))
@@ -194,7 +202,8 @@ module _ (kind : Kind) (names : List Name) (holds : List Row → Type 0) where
               words_in-more is_listed kind.shape before h words p w role.Name e is,
               append-nil members,
             ) m.held)
-            (λ a rest some. rw same (later_none (known_name names w) _ none)),
+            (λ a rest some. rw same (later_none (known_name names w) _ none))
+            (λ q member. m.listed q (rw same at member)),
       )
     where
       later_none : (a b : Option Judgement) → or_next a b ≡ None → b ≡ None
@@ -221,7 +230,7 @@ module _ (kind : Kind) (names : List Name) (holds : List Row → Type 0) where
               words_in-more is_listed kind.shape before h words p w role.Colon e is,
               append-nil members,
             ) m.held)
-            (λ a rest some. m.named a rest (sym same ∙ some)),
+            (λ a rest some. m.named a rest (sym same ∙ some)) m.listed,
       )
 
   -- what is kept of the members so far
@@ -241,13 +250,15 @@ module _ (kind : Kind) (names : List Name) (holds : List Row → Type 0) where
       → member_word kind names rows list w ≡ None)
       → ((list : Words) → AreMembers names list row.set row.constant
       → AreMembers names (list ++ w ∷ []) row'.set row'.constant)
+      → ((rows : List Row) → holds rows → (q : ℕ) → is_member row'.set q ≡ true
+      → (is_member row.set q ≡ true) ⊎ (kind.bars.listed rows q ≡ None))
       → row' ≡ record row { set = row'.set; constant = row'.constant }
       → IsKept kind names holds row before here → p ≡ point_of before here
       → ((row_rules kind names).judge before here w ≡ None)
       × IsKept kind names holds row' before (here ++ w ∷ [])
-  took_member row row' before [] p w is clean joins same m e =
+  took_member row row' before [] p w is clean joins adds same m e =
       let is' = rw e at is in absurd (cc is')
-  took_member row row' before (h ∷ words) p w is clean joins same m e =
+  took_member row row' before (h ∷ words) p w is clean joins adds same m e =
       let rows = rows_in kind.shape names before in
       let numbers = words_in is_number kind.shape (h ∷ words) in
       let list = words_in is_name kind.shape (h ∷ words) in
@@ -268,7 +279,11 @@ module _ (kind : Kind) (names : List Name) (holds : List Row → Type 0) where
               m.row_is,
             ) refl))
             (rw (words_in-more is_listed kind.shape before h words p w role.Member e is) joined.held)
-            (λ a rest some. rw same (m.named a rest (sym names_same ∙ some))),
+            (λ a rest some. rw same (m.named a rest (sym names_same ∙ some)))
+            (λ q member. elim (adds rows m.held_rows q member) [
+              | inl old ↦ m.listed q old
+              | inr new ↦ new
+            ]),
       )
 
   pub stops_member : (row : Row) (before : Lines) (here : Words) (p : Point) (w : List ℕ)
@@ -292,6 +307,7 @@ module _ (kind : Kind) (names : List Name) (holds : List Row → Type 0) where
             let has' = rw head at has in
             let there = name_there (kind.shape (head_of h)) words has' clean' in
             m.named there.0 there.1 there.2;
+        listed = m.listed;
       }
 
   pub line_kept : (holds' : List Row → Type 0) (row : Row) (before : Lines) (here : Words)
@@ -313,6 +329,7 @@ module _ (kind : Kind) (names : List Name) (holds : List Row → Type 0) where
           held = refl;
           head = λ h words eq. absurd (cc eq);
           named = λ a words eq. absurd (cc eq);
+          listed = λ q member. absurd (cc member);
         },
       )
 
@@ -335,6 +352,7 @@ module _ (kind : Kind) (names : List Name) (holds : List Row → Type 0) where
           held = refl;
           head = λ h words eq. absurd (cc eq);
           named = λ a words eq. absurd (cc eq);
+          listed = λ q member. absurd (cc member);
         },
       )
 
@@ -346,6 +364,7 @@ module _ (kind : Kind) (names : List Name) (holds : List Row → Type 0) where
     held = refl;
     head = λ h words eq. absurd (cc eq);
     named = λ a words eq. absurd (cc eq);
+    listed = λ q member. absurd (cc member);
   }
 
 -- a test of two

@@ -1,8 +1,10 @@
 -- The members of a set by their names, with one more.
 use Rattle.std.proofs.Common.{◌≡◌, ℕ, zero, suc, ◌<◌, List, [], ◌∷◌, ◌++◌, Bool, true, false, not}
 use Rattle.std.proofs.Common.{◌&&◌, ◌||◌, Some, None, length, map, refl, sym, ap, ◌∙◌, arith, nat_eq}
-use Rattle.std.proofs.Common.{nat_lt, codes}
+use Rattle.std.proofs.Common.{nat_lt, codes, ◌⊎◌}
 use Rattle.std.specs.List.{list_all, list_any, filter}
+use Rattle.std.proofs.lemmas.Bool.{cases_Bool}
+use mathlib.Core.Logic.{inl, inr}
 use Rattle.std.proofs.lemmas.Bool.Decides.{nat_tests}
 use Rattle.std.proofs.lemmas.List.{append-nil, map-append}
 use Rattle.std.proofs.lemmas.List.Folds.{list_any-append, list_all-append}
@@ -193,3 +195,15 @@ none_from q (suc n) = none_from (suc q) n
 
 pub no_members : (names : List (List ℕ)) → set_by names [] ≡ []
 no_members names = none_from 0 (length names)
+
+-- each member of a set with one more is one of the set, or the one more
+pub joined_by : (set set' : List ℕ) (p q : ℕ) (A : Type 0)
+    → is_member set' p ≡ (is_member set p ⊻ nat_eq p q) → is_member set' p ≡ true
+    → (p ≡ q → A) → (is_member set p ≡ true) ⊎ A
+joined_by set set' p q A same member more = elim (cases_Bool (nat_eq p q)) [
+  | inl e ↦ let here : p ≡ q = grind (arith, nat_tests) in inr (more here)
+  | inr e ↦ inl (stays (is_member set p) (nat_eq p q) (sym same ∙ member) e)
+]
+  where
+    stays : (b e : Bool) → (b ⊻ e) ≡ true → e ≡ false → b ≡ true
+    stays b e both none = grind arith

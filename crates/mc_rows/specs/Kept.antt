@@ -2,6 +2,7 @@
 use Rattle.std.specs.Prelude.{◌≡◌, ℕ, List, [], ◌∷◌, Bool, true, false, None}
 use Rattle.std.specs.List.{list_all}
 use Rattle.mc_model.specs.Names.{Name, is_held}
+use Rattle.mc_model.specs.Numbers.{is_member}
 use Rattle.mc_text.specs.Heads.{head_of}
 use Rattle.mc_text.specs.Judged.{Words, Lines}
 use Rattle.mc_rows.specs.declared.row.Row.{Row}
@@ -29,11 +30,13 @@ has_name Set = false
 has_name NamedSet = true
 has_name RankedSet = true
 
--- the rules of the kind's own are kept by the record word of a row behind these and by its name
+-- the rules of the kind's own are kept by the record word of a row behind these, its name and the
+-- members of its set
 pub record Passes (kind : Kind) (rows : List Row) (row : Row) : Type 0 where
   pub head : kind.bars.head rows row.head ≡ None
   pub named : has_name (kind.shape row.head) ≡ true
       → kind.bars.named rows row.head row.number row.name ≡ None
+  pub listed : (q : ℕ) → is_member row.set q ≡ true → kind.bars.listed rows q ≡ None
 
 -- the row that is kept is that of the words so far
 pub record IsKept (kind : Kind) (names : List Name) (holds : List Row → Type 0) (row : Row)
@@ -45,3 +48,5 @@ pub record IsKept (kind : Kind) (names : List Name) (holds : List Row → Type 0
       → kind.bars.head (rows_in kind.shape names before) (head_of h) ≡ None
   pub named : (a : List ℕ) (words : Words) → words_in is_name kind.shape here ≡ a ∷ words
       → kind.bars.named (rows_in kind.shape names before) row.head row.number row.name ≡ None
+  pub listed : (q : ℕ) → is_member row.set q ≡ true
+      → kind.bars.listed (rows_in kind.shape names before) q ≡ None

@@ -8,7 +8,8 @@
 //!    of a record word by the rows before, of the name of a row, and of a member of a set. They speak of rows and numbers,
 //!    not of words. Its rules are then `row_rules kind names`, and its value is a map over `rows_in shape names lines`.
 //! 2. A struct that keeps the rows, with an `impl` of [`Rows`]: the table and the rules as code, `holds` (these are the rows
-//!    that are kept) and `push`. What is known of a row there is `Passes`: no rule is against its record word and its name.
+//!    that are kept) and `push`. What is known of a row there is `Passes`: no rule is against
+//!    its record word, its name and its members.
 //! 3. A reader of a few lines: [`RowReader::new`], then `mc_text::read_section`; what is kept is `reader.kind`. Its contract
 //!    follows from that of `read_section`: `clean` and `err` speak of `row_rules`, and `read` gives `holds` of the rows.
 //! 4. A printer: a header, [`print_row`] for each row with its [`Parts`], [`print_end`].

@@ -1,6 +1,7 @@
 //! What the words of a row do.
 
-ghost use Rattle.std.specs.Prelude.{◌≡◌, ◌++◌, ◌∷◌, [], List, ℕ, ◌&&◌, None, OnOk, IfErr};
+ghost use Rattle.std.specs.Prelude.{◌≡◌, ◌++◌, ◌∷◌, [], List, ℕ, ◌&&◌, ◌⊎◌, true, None, OnOk, IfErr};
+ghost use Rattle.mc_model.specs.Numbers.{is_member};
 ghost use Rattle.mc_angle.specs.Number.{number_of};
 ghost use Rattle.mc_text.specs.Heads.{head_of};
 ghost use Rattle.mc_text.specs.Rules.{number_in, number_word};
@@ -97,6 +98,9 @@ pub(crate) fn take_member<K: Rows>(
     ensures joins { OnOk result ((list : List (List ℕ))
         → AreMembers names.now list set.old constant.old
         → AreMembers names.now (list ++ word.now ∷ []) set.new constant.new) }
+    ensures listed { OnOk result ((rows : List PlainRow) → K.holds kind.now rows
+        → (q : ℕ) → is_member set.new q ≡ true → (is_member set.old q ≡ true)
+        ⊎ ((K.kind kind.now).bars.listed rows q ≡ None)) }
     ensures err { IfErr result (λ stop. (rows : List PlainRow) (list : List (List ℕ))
         → K.holds kind.now rows → AreMembers names.now list set.old constant.old
         → IsStop stop (member_word (K.kind kind.now) names.now rows list word.now)) }

@@ -1,8 +1,8 @@
-use Rattle.std.proofs.Common.{sym, ◌∙◌, ◌≡◌, ◌&&◌, true, false}
+use Rattle.std.proofs.Common.{sym, ◌∙◌, ◌≡◌, ◌&&◌, true, false, None}
 use Rattle.mc_rows.specs.Rows.{is_one}
 use Rattle.mc_rows.proofs.Keeping.{both_by}
-use Rattle.mc_rows.proofs.Sets.{member_one_twice, member_one, member_twice, member_once}
-use Rattle.mc_rows.proofs.Sets.{joins_one, joins_name}
+use Rattle.mc_rows.proofs.Sets.{member_twice, member_once}
+use Rattle.mc_rows.proofs.Sets.{joins_name, joined_by}
 use Rattle.mc_rows.proofs.steps.take_member.Goals as goal
 
 pub returns-then-has-clause-err : goal.returns-then-has-clause-err
@@ -36,3 +36,10 @@ returns-in-Ok-toggle-clause-joins g c = λ list are.
     joins_name c.args.names.now list c.args.set.now c.toggle.new.self c.args.constant.now
     c.args.word.now c.in-Ok.number c.in-Ok.ensures.name c.in-Ok.ensures.place are
     (sym c.has.ensures.member ∙ c.if-has.false) c.in-Ok-toggle.ensures.ok
+
+pub returns-in-Ok-toggle-clause-listed : goal.returns-in-Ok-toggle-clause-listed
+returns-in-Ok-toggle-clause-listed g c = λ rows holds q member.
+    joined_by c.args.set.now c.toggle.new.self q c.in-Ok.number
+    ((g.K.Rows.kind c.args.kind.now).bars.listed rows q ≡ None)
+    (c.in-Ok-toggle.ensures.members q) member
+    (λ same. rw same (c.in_default.ensures.clean rows holds))

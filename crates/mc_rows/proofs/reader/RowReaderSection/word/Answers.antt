@@ -56,7 +56,8 @@ returns-in-Ok-take_member-clause-ok g c = record {
       (g.K.Rows.holds c.args.self.now.kind) c.args.self.now.row _ before here c.args.point c.args.word.now
       (role_is (g.K.Rows.kind c.args.self.now.kind).shape c.args.point
       c.shape.result c.role.result role.Member c.shape.ensures c.role.ensures c.in-Member.is)
-      c.in-Ok-take_member.ensures.clean c.in-Ok-take_member.ensures.joins refl m e;
+      c.in-Ok-take_member.ensures.clean c.in-Ok-take_member.ensures.joins
+      c.in-Ok-take_member.ensures.listed refl m e;
 }
 
 pub returns-in-Err-take_member-clause-err : goal.returns-in-Err-take_member-clause-err
