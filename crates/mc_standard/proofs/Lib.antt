@@ -1,11 +1,12 @@
 pub mod CodeParts
-pub mod CutParts
 pub mod Edits
 pub mod ImprovedAtPlace
 pub mod InParts
+pub mod OddPairs
 pub mod OrderedFronts
 pub mod PickedRules
 pub mod RewriterAdvances
 pub mod RuleTypes
+pub mod RunningPass
 pub mod StandardPatterns
 pub mod StandardTyped

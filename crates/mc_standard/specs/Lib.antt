@@ -1,7 +1,8 @@
 pub mod Changes
-pub mod Cut
+pub mod OddPairs
 pub mod Places
 pub mod Plain
+pub mod Running
 pub mod StandardForms
 pub mod Stepping
 pub mod Uses

@@ -1,51 +1,60 @@
-use Rattle.std.proofs.Common.{◌≡◌, refl, arith}
-use Rattle.mc_model.specs.StandardForm.{standard_form}
-use Rattle.mc_rules.proofs.StandardAlike.{pattern_alike}
-use Rattle.mc_standard.proofs.StandardPatterns.{standard_pattern, reached, none_there}
+use Rattle.std.proofs.Common.{length, sym, ◌∙◌, ap, subst, arith}
+use Rattle.mc_standard.specs.Running.{AllBelow}
+use Rattle.mc_standard.specs.StandardForms.{IsStandardForm}
+use Rattle.mc_standard.proofs.StandardPatterns.{standard_pattern, form_made, form_of, operands_below}
 use Rattle.mc_standard.proofs.standardisation.standardise.Goals as goal
 
-pub standard_of-requires : goal.standard_of-requires
-standard_of-requires g c =
+pub pass_over-requires : goal.pass_over-requires
+pass_over-requires g c = (
+  omega arith,
+  (
+    omega arith,
+    subst (AllBelow 256) (sym c.commands.ensures)
+        (operands_below g.row.H c.args.p.now c.names.ensures.valid),
+  ),
+)
+
+pub invariant_of-result-2 : goal.invariant_of-result-2
+invariant_of-result-2 g c =
     let p = c.args.p.now in
-    let none = none_there c.in_ok-step.field-0 c.if-is_some.ensures in
-    let done = rw none at c.in_ok-step.ensures.done in
-    let stays : c.step.new.self ≡ c.uses.rewriter = rw none at c.in_ok-step.ensures.stays in
-    let whole : c.uses.rewriter ≡ standard_form p =
-    reached p c.uses.rewriter c.uses.invariant (done.0 refl) in (
-      omega arith,
-      (
-        omega arith,
-        rw (
-          c.in_ok-names.ensures,
-          c.names.ensures.names,
-          c.inputs.ensures,
-          c.commands-commands.ensures,
-          c.outputs.ensures,
-          stays,
-          whole,
-        ) (standard_pattern g.row.H p c.names-names.ensures.valid),
-      ),
-    )
+    let h = c.names.ensures.valid in
+    let made =
+    (form_of p _
+    (form_made g.row.H c.one_pass.ensures p h c.in_ok-preps.field-0 c.in_ok-edges_of.field-0.items
+    c.in_ok-fixes_of.field-0.items c.len-qubits.result _ c.commands.ensures
+    c.in_ok-preps.ensures.whole
+    (c.len-qubits.ensures.len ∙ ap length (c.in_ok-names.ensures ∙ c.names.ensures.names))
+    (rw c.as_slice.ensures.value at c.in_ok-edges_of.ensures) c.in_ok-fixes_of.ensures)) in
+    rw (
+      c.names-2.view_is,
+      c.in_ok-names.ensures,
+      c.names.ensures.names,
+      c.inputs.ensures,
+      c.in_ok-copied.ensures,
+      c.outputs.ensures,
+    ) (subst (IsStandardForm g.row.H) (sym made)
+    (standard_pattern c.standard_is_standard.ensures g.row.H p h))
 
 pub returns-clause-form : goal.returns-clause-form
 returns-clause-form g c =
     let p = c.args.p.now in
-    let none = none_there c.in_ok-step.field-0 c.if-is_some.ensures in
-    let done = rw none at c.in_ok-step.ensures.done in
-    let stays : c.step.new.self ≡ c.uses.rewriter = rw none at c.in_ok-step.ensures.stays in
-    let whole : c.uses.rewriter ≡ standard_form p =
-    reached p c.uses.rewriter c.uses.invariant (done.0 refl) in
+    let h = c.names.ensures.valid in
     rw (
-      c.in_ok-standard.ensures,
+      c.names-2.view_is,
       c.in_ok-names.ensures,
       c.names.ensures.names,
       c.inputs.ensures,
-      c.commands-commands.ensures,
+      c.in_ok-copied.ensures,
       c.outputs.ensures,
-      stays,
-    ) whole
+    )
+    (form_of p _
+    (form_made g.row.H c.one_pass.ensures p h c.in_ok-preps.field-0 c.in_ok-edges_of.field-0.items
+    c.in_ok-fixes_of.field-0.items c.len-qubits.result _ c.commands.ensures
+    c.in_ok-preps.ensures.whole
+    (c.len-qubits.ensures.len ∙ ap length (c.in_ok-names.ensures ∙ c.names.ensures.names))
+    (rw c.as_slice.ensures.value at c.in_ok-edges_of.ensures) c.in_ok-fixes_of.ensures))
 
 pub returns-clause-alike : goal.returns-clause-alike
 returns-clause-alike g c = λ half positive o.
     rw (returns-clause-form g c)
-    (pattern_alike half positive c.args.p.now c.names-names.ensures.valid.valid o)
+    (c.standard_is_alike.ensures half positive c.args.p.now c.names.ensures.valid.valid o)

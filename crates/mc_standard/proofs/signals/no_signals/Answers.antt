@@ -1,0 +1,12 @@
+use Rattle.std.proofs.Common.{◌≡◌, ◌++◌, [], ◌∷◌, List, length, sym, ◌∙◌, ap, arith}
+use Rattle.std.proofs.lemmas.List.{length-append}
+use Rattle.mc_model.specs.Signals.{Signal, no_signal}
+use Rattle.mc_standard.proofs.RunningPass.{still_none}
+use Rattle.mc_standard.proofs.signals.no_signals.Goals as goal
+
+pub qubits-preserved : goal.qubits-preserved
+qubits-preserved c =
+    let long = c.qubits.invariant.0 in
+    let sum = length-append c.qubits.signals.items (no_signal ∷ []) in
+    rw (c.in_ok-append.ensures, c.empty.ensures)
+    (omega arith, still_none c.qubits.signals.items c.qubits.invariant.1)
