@@ -6,7 +6,7 @@ ghost use Rattle.mc_model.specs.Ring.{ring};
 ghost use Rattle.mc_model.specs.Pattern.{Pattern};
 ghost use Rattle.mc_model.specs.Amplitude.{branch_map};
 ghost use Rattle.mc_model.specs.Valid.{measured};
-ghost use Rattle.mc_model.specs.Shift.{change_of, new_outcomes, IsShifted, IsShiftedForm};
+ghost use Rattle.mc_model.specs.Shift.{change_of, new_outcomes, IsShifted, IsShiftedForm, IsInShiftedForm};
 ghost use Rattle.mc_rules.specs.Parts.{measurements_of, corrections_of, IsInParts};
 ghost use Rattle.mc_standard.specs.StandardForms.{IsStandardForm};
 ghost use Rattle.mc_standard.specs.Plain.{plain_measure, plain_fix};
@@ -140,6 +140,7 @@ pub fn shift<const H: usize>(
     ensures form { IfOk result (λ shifted. IsShiftedForm p.now shifted.0) }
     ensures only { IfOk result (λ shifted. (q : Pattern) → IsShiftedForm p.now q → q ≡ shifted.0) }
     ensures valid { IfOk result (λ shifted. IsValidShiftedForm p.now shifted.0) }
+    ensures shifted { IfOk result (λ shifted. IsInShiftedForm shifted.0) }
     ensures change { IfOk result (λ shifted. shifted.1 ≡ change_of p.now.commands) }
     ensures maps { IfOk result (λ shifted. (half : ℕ) → 0 < half →
         (o : Bits) (y : List Bool) (b : Bits) →

@@ -1,5 +1,5 @@
 -- The standard form of commands with sets and with angles below a turn has the like.
-use Rattle.std.proofs.Common.{ℕ, zero, suc, ◌+◌, Bool, true, false, cond, ◌&&◌, List, [], ◌∷◌, ◌++◌, refl}
+use Rattle.std.proofs.Common.{ℕ, zero, suc, ◌+◌, Bool, true, false, cond, ◌&&◌, List, [], ◌∷◌, ◌++◌}
 use Rattle.std.specs.Prelude.{nat_eq, nat_lt}
 use Rattle.mc_model.specs.Numbers.{pairs_at, pairs_below}
 use Rattle.mc_model.specs.Signals.{Signal, Signals, no_signal, signal_sum, is_empty}

@@ -103,11 +103,7 @@ fn push_row(edges: &mut Vec<(u16, u16)>, odd: &[bool], i: u16, qubits: u16) -> R
 }
 
 /// The pairs, the lower number first, in rising order.
-pub(crate) fn edges_of(
-    alloc: Global,
-    odd: &[bool],
-    qubits: u16,
-) -> Result<Vec<(u16, u16)>, Memory>
+pub(crate) fn edges_of(alloc: Global, odd: &[bool], qubits: u16) -> Result<Vec<(u16, u16)>, Memory>
     requires long { length odd.now ≡ 65536 }
     requires few { qubits ≤ 256 }
     ensures { IfOk result (λ edges.

@@ -43,6 +43,16 @@ returns-clause-valid g c =
     let valid = c.names-names.ensures.standard.pattern.valid in
     shifted_forms_valid c.args.p.now _ valid (returns-clause-form g c)
 
+pub returns-clause-shifted : goal.returns-clause-shifted
+returns-clause-shifted g c =
+    let h = c.names-names.ensures in
+    let form = returns-clause-form g c in
+    record {
+      standard =
+          (shifted_standard c.settled_is_standard.ensures g.row.H c.args.p.now _ h.standard form).own;
+      shifted = (returns-clause-valid g c).no_second;
+    }
+
 pub returns-clause-change : goal.returns-clause-change
 returns-clause-change g c =
     c.in_ok-measures.ensures.change ∙ change_of_part c.args.p.now.commands

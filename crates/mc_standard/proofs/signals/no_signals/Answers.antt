@@ -1,6 +1,6 @@
-use Rattle.std.proofs.Common.{◌≡◌, ◌++◌, [], ◌∷◌, List, length, sym, ◌∙◌, ap, arith}
+use Rattle.std.proofs.Common.{[], ◌∷◌, arith}
 use Rattle.std.proofs.lemmas.List.{length-append}
-use Rattle.mc_model.specs.Signals.{Signal, no_signal}
+use Rattle.mc_model.specs.Signals.{no_signal}
 use Rattle.mc_standard.proofs.RunningPass.{still_none}
 use Rattle.mc_standard.proofs.signals.no_signals.Goals as goal
 
