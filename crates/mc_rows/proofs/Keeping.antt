@@ -12,7 +12,9 @@ use Rattle.mc_angle.specs.Number.{number_of}
 use Rattle.mc_text.specs.declared.head.Head.{Head}
 use Rattle.mc_text.specs.declared.point.Point.{Point}
 use Rattle.mc_text.specs.Heads.{head_of, head_in, is_end}
-use Rattle.mc_text.specs.Points.{point_of}
+use Rattle.mc_text.specs.declared.head.Head.TheVariants.{End}
+use Rattle.mc_text.specs.Points.{point_of, last_head}
+use Rattle.std.proofs.lemmas.List.Sums.{fold-append}
 use Rattle.mc_text.specs.Judged.{Judgement, Words, Lines}
 use Rattle.mc_text.specs.Rules.{or_next, known_name, fixed_word, number_in, number_word}
 use Rattle.mc_text.proofs.Going.{head_at}
@@ -93,6 +95,16 @@ name_there RankedSet [] has clean = absurd (cc clean)
 name_there RankedSet (a ∷ []) has clean = absurd (cc clean)
 name_there RankedSet (a ∷ b ∷ words) has clean = (b, _, refl)
 
+-- the record word of the last line
+last_line : (before : Lines) (here : Words) → last_head (before ++ here ∷ []) ≡ head_in here
+last_line before here =
+    fold-append (λ (last : Option Head) (line : Words). head_in line) None before (here ∷ [])
+
+end_head : (h : Option Head) → is_end h ≡ true → h ≡ Some End
+end_head None e = absurd (cc e)
+end_head (Some End) e = refl
+end_head (Some _) e = absurd (cc e)
+
 module _ (kind : Kind) (names : List Name) (holds : List Row → Type 0) where
   judged : (row : Row) (before : Lines) (here : Words) (p : Point) (w : List ℕ)
       → IsKept kind names holds row before here → p ≡ point_of before here
@@ -118,6 +130,7 @@ module _ (kind : Kind) (names : List Name) (holds : List Row → Type 0) where
     head = λ h' rest e. let first : h ≡ h' = cc e in rw (← first) (m.head h words refl);
     named = free;
     listed = listed;
+    ended = m.ended;
   }
 
   pub took_head : (row row' : Row) (before : Lines) (here : Words) (p : Point) (w : List ℕ)
@@ -141,6 +154,7 @@ module _ (kind : Kind) (names : List Name) (holds : List Row → Type 0) where
           listed = λ q member.
               let member' = rw (same, m.row_is, no_members names) at member in
               absurd (cc member');
+          ended = m.ended;
         },
       )
     where
@@ -310,6 +324,14 @@ module _ (kind : Kind) (names : List Name) (holds : List Row → Type 0) where
         listed = m.listed;
       }
 
+  -- the rules of the kind's own are not against the end of the section
+  end_free : (row : Row) (before : Lines) (here : Words) → IsKept kind names holds row before here
+      → is_end (head_in here) ≡ true
+      → kind.bars.head (rows_in kind.shape names before) (Some End) ≡ None
+  end_free row before [] m ends = absurd (cc ends)
+  end_free row before (h ∷ words) m ends =
+      rw (← end_head (head_of h) ends) (m.head h words refl)
+
   pub line_kept : (holds' : List Row → Type 0) (row : Row) (before : Lines) (here : Words)
       (p : Point) → is_end p.head ≡ false → lacks_by (role_at kind.shape p) ≡ None
       → ((rows : List Row) → holds rows → Passes kind rows row → holds' (rows ++ row ∷ []))
@@ -330,6 +352,9 @@ module _ (kind : Kind) (names : List Name) (holds : List Row → Type 0) where
           head = λ h words eq. absurd (cc eq);
           named = λ a words eq. absurd (cc eq);
           listed = λ q member. absurd (cc member);
+          ended = λ ends.
+              let ends' = rw (last_line before here) at ends in
+              absurd (cc (ends', goes'));
         },
       )
 
@@ -353,6 +378,7 @@ module _ (kind : Kind) (names : List Name) (holds : List Row → Type 0) where
           head = λ h words eq. absurd (cc eq);
           named = λ a words eq. absurd (cc eq);
           listed = λ q member. absurd (cc member);
+          ended = λ over. rw same (end_free row before here m ends');
         },
       )
 
@@ -365,6 +391,7 @@ module _ (kind : Kind) (names : List Name) (holds : List Row → Type 0) where
     head = λ h words eq. absurd (cc eq);
     named = λ a words eq. absurd (cc eq);
     listed = λ q member. absurd (cc member);
+    ended = λ ends. absurd (cc ends);
   }
 
 -- a test of two

@@ -1,9 +1,11 @@
 -- What is kept of the lines of a section of rows.
-use Rattle.std.specs.Prelude.{◌≡◌, ℕ, List, [], ◌∷◌, Bool, true, false, None}
+use Rattle.std.specs.Prelude.{◌≡◌, ℕ, List, [], ◌∷◌, Bool, true, false, None, Some}
 use Rattle.std.specs.List.{list_all}
 use Rattle.mc_model.specs.Names.{Name, is_held}
 use Rattle.mc_model.specs.Numbers.{is_member}
-use Rattle.mc_text.specs.Heads.{head_of}
+use Rattle.mc_text.specs.declared.head.Head.TheVariants.{End}
+use Rattle.mc_text.specs.Heads.{head_of, is_end}
+use Rattle.mc_text.specs.Points.{last_head}
 use Rattle.mc_text.specs.Judged.{Words, Lines}
 use Rattle.mc_rows.specs.declared.row.Row.{Row}
 use Rattle.mc_rows.specs.declared.row.Shape.{Shape}
@@ -50,3 +52,5 @@ pub record IsKept (kind : Kind) (names : List Name) (holds : List Row → Type 0
       → kind.bars.named (rows_in kind.shape names before) row.head row.number row.name ≡ None
   pub listed : (q : ℕ) → is_member row.set q ≡ true
       → kind.bars.listed (rows_in kind.shape names before) q ≡ None
+  pub ended : is_end (last_head before) ≡ true
+      → kind.bars.head (rows_in kind.shape names before) (Some End) ≡ None

@@ -11,7 +11,8 @@
 //!    that are kept) and `push`. What is known of a row there is `Passes`: no rule is against
 //!    its record word, its name and its members.
 //! 3. A reader of a few lines: [`RowReader::new`], then `mc_text::read_section`; what is kept is `reader.kind`. Its contract
-//!    follows from that of `read_section`: `clean` and `err` speak of `row_rules`, and `read` gives `holds` of the rows.
+//!    follows from that of `read_section`: `clean` and `err` speak of `row_rules`, and `read` gives `holds` of the rows; with
+//!    `ended` of what is kept, the kind's rule of a record word was not against `end`.
 //! 4. A printer: a header, [`print_row`] for each row with its [`Parts`], [`print_end`].
 //! 5. Its law: [`rows_are_read`] says that the lines of rows that are sound (`AreSound`) are read without a fault and give
 //!    the rows back, so what is left is that the value's rows are sound. [`rows_are_within`] says that names and members
