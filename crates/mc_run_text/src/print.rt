@@ -55,6 +55,7 @@ fn print_amplitude<const H: usize>(
     requires input { b < 2 ^ table.now.inputs }
     ensures { OnOk result (text.new.items ≡ text.old.items ++ line_text (amplitude_line H table.now y b)) }
 {
+    table.known();
     start_line(text, b"amp")?;
     add_digits(text, table.outputs(), y)?;
     add_digits(text, table.inputs(), b)?;
