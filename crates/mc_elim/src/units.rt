@@ -81,8 +81,8 @@ fn toggle_if(set: &mut QSet, k: u16, told: bool) -> Result<(), Memory>
     Ok(())
 }
 
-/// The places of a row at which the bit is 1.
-fn members_of(alloc: Global, row: &BitRow) -> Result<QSet, Memory>
+/// The places of a row of at most 256 bits at which the bit is 1.
+pub fn members_of(alloc: Global, row: &BitRow) -> Result<QSet, Memory>
     requires { length row.now ≤ 256 }
     ensures { IfOk result (λ set. (k : ℕ) → is_member set k ≡ bit_of row.now k) }
 {

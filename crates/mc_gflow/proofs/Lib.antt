@@ -1,8 +1,11 @@
 pub mod CandidateSets
 pub mod CandidatesInserted
 pub mod ChosenAtEnd
+pub mod ChosenRows
 pub mod EarliestLayers
 pub mod LayersTaken
+pub mod ListedRows
 pub mod NeighbourColumns
 pub mod RoundsOfSearch
+pub mod RowsPushed
 pub mod TakenOrNot

@@ -7,47 +7,23 @@ ghost use Rattle.mc_model.specs.Choice.{IsChosenFlow};
 ghost use Rattle.mc_elim.specs.Tables.{entry};
 ghost use Rattle.mc_gflow.specs.Layers.{IsSearching, IsSearched, HasSquare, AllSingle};
 ghost use Rattle.mc_gflow.specs.Layers.{IsWithoutFlow, left_over};
-ghost use Rattle.mc_gflow.specs.Answers.{IsChosen, HasSingleSets, IsSized};
+ghost use Rattle.mc_gflow.specs.Answers.{IsChosen, HasSingleSets};
 
 use crate::insert::insert_layer;
+use crate::rows::{flow_of, refuter_of};
 use crate::take::{NONE, refute_all, take_layer};
 use mc_bits::{BitRow, Rows, Steps};
 use mc_elim::Basis;
-use mc_graph::OpenGraph;
+use mc_graph::{GFlow, OpenGraph, Refuter};
 use mc_model::Memory;
 use std::alloc::Global;
 use std::sync::ledger::Ledger;
 
-/// A layer and a set for each vertex.
-#[derive(Drop)]
-pub struct Layers {
-    layers: Vec<u16>,
-    sets: Rows,
-}
-
-/// What a graph has: a flow, or vertices that can't be corrected, with the sets that show it.
+/// What a graph has: a flow, or vertices that no flow corrects, with the sets that show it.
 #[derive(Drop)]
 pub enum Found {
-    Flow(Layers),
-    Refuted(Layers),
-}
-
-impl Layers {
-    /// The layer of a vertex.
-    pub fn layer(&self, v: u16) -> u16
-        requires { v < length self.now.layers.items }
-        ensures { result ≡ slice_index self.now.layers.items v }
-    {
-        self.layers[v as usize]
-    }
-
-    /// The set of a vertex.
-    pub fn set(&self, v: u16) -> &BitRow
-        requires { v < length self.now.sets }
-        ensures { result.now ≡ slice_index_or self.now.sets v [] }
-    {
-        self.sets.row(v)
-    }
+    Flow(GFlow),
+    Refuted(Refuter),
 }
 
 fn start_layer(is_output: bool) -> u16
@@ -141,32 +117,44 @@ fn settle<const H: usize, L: Ledger>(
 }
 
 fn answer<const H: usize, L: Ledger>(
+    alloc: Global,
     graph: &OpenGraph<H>,
-    mut layers: Vec<u16>,
-    mut sets: Rows,
+    layers: &mut [u16],
+    sets: &mut Rows,
     order: &mut [u16],
     basis: &mut Basis,
     steps: &mut Steps<L>,
-) -> Found
-    requires lengths { (length layers.items ≡ size graph.now)
+) -> Result<Found, Memory>
+    requires lengths { (length layers.old ≡ size graph.now)
         × (length order.old ≡ size graph.now) }
-    requires square { HasSquare (size graph.now) sets }
+    requires square { HasSquare (size graph.now) sets.old }
     requires sizes { (basis.old.rows ≡ size graph.now) × (basis.old.room ≡ size graph.now) }
     requires empty { (basis.old.columns ≡ []) × (basis.old.has_added ≡ false) }
-    ensures chosen { IsChosen graph.now result }
+    ensures chosen { IfOk result (IsChosen graph.now) }
     ensures rise { steps.old ≤ steps.new }
     ensures most { steps.new ≤ steps.old + 2 * (size graph.now * size graph.now) }
-    ensures some { steps.new ≡ steps.old → HasSingleSets graph.now result }
-    ensures sized { IsSized (size graph.now) result }
+    ensures some { IfOk result (λ found. steps.new ≡ steps.old → HasSingleSets found) }
 {
-    if settle(graph, &mut layers, &mut sets, order, basis, steps) {
-        Found::Flow(Layers { layers, sets })
+    let _vertices = graph.len();
+    if settle(graph, layers, sets, order, basis, steps) {
+        match flow_of(alloc, layers, sets) {
+            Ok(flow) => Ok(Found::Flow(flow)),
+            Err(_) => Err(Memory),
+        }
     } else {
-        Found::Refuted(Layers { layers, sets })
+        match refuter_of(alloc, layers, sets) {
+            Ok(refuter) => Ok(Found::Refuted(refuter)),
+            Err(_) => Err(Memory),
+        }
     }
 }
 
-/// The chosen flow, or the chosen refuter of a graph that has no flow.
+/// The chosen flow, its rows by rising layer and within a layer by rising number, or exactly where
+/// the graph has no flow the chosen refuter, its rows by rising number (Browne, Kashefi, Mhalla and
+/// Perdrix 2007; Mhalla and Perdrix 2008).
+///
+/// The additions of rows of bits are counted, at most twice the square of the number of vertices;
+/// where nothing was counted each set has one member. They are counted after want of memory too.
 pub fn find_flow<const H: usize, L: Ledger>(
     alloc: Global,
     graph: &OpenGraph<H>,
@@ -176,15 +164,22 @@ pub fn find_flow<const H: usize, L: Ledger>(
     ensures rise { steps.old ≤ steps.new }
     ensures most { steps.new ≤ steps.old + 2 * (size graph.now * size graph.now) }
     // where some set of a flow has two members or more, something was counted
-    ensures some { IfOk result (λ found. steps.new ≡ steps.old → HasSingleSets graph.now found) }
-    ensures sized { IfOk result (IsSized (size graph.now)) }
+    ensures some { IfOk result (λ found. steps.new ≡ steps.old → HasSingleSets found) }
 {
     let n = graph.len();
     let mut basis = Basis::new(alloc, n, n)?;
-    let sets = Rows::new(alloc, n, n)?;
+    let mut sets = Rows::new(alloc, n, n)?;
     let mut order = numbers(alloc, n)?;
-    let layers = numbers(alloc, n)?;
-    Ok(answer(graph, layers, sets, &mut order, &mut basis, steps))
+    let mut layers = numbers(alloc, n)?;
+    answer(
+        alloc,
+        graph,
+        &mut layers,
+        &mut sets,
+        &mut order,
+        &mut basis,
+        steps,
+    )
 }
 
 fn numbers(alloc: Global, n: u16) -> Result<Vec<u16>, Memory>

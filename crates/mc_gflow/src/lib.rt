@@ -4,6 +4,7 @@
 mod find;
 mod graph;
 mod insert;
+mod rows;
 mod take;
 
-pub use find::{Found, Layers, find_flow};
+pub use find::{Found, find_flow};
