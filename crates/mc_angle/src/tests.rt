@@ -11,6 +11,16 @@ fn turns(rt: HostRuntime) {
 }
 
 #[test]
+fn turns_by_sixteenths(rt: HostRuntime) {
+    let angle: Angle<8> = Angle::of(-3);
+    assert_eq!(rt; angle.steps(), 13);
+    assert_eq!(rt; angle.neg(), Angle::of(3));
+    assert_eq!(rt; angle.half_turn(), Angle::of(5));
+    assert_eq!(rt; angle.add(&Angle::of(4)), Angle::of(1));
+    assert_eq!(rt; Angle::<8>::read(b"-17"), Some(Angle::of(15)));
+}
+
+#[test]
 fn reads_words(rt: HostRuntime) {
     for (word, steps) in [
         ("007", Some(7)),

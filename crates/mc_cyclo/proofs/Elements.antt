@@ -1,8 +1,10 @@
 -- What keeps an element in range.
-use Rattle.std.proofs.Common.{◌≡◌, ℕ, ◌+◌, ◌/◌, ◌%◌, ◌^◌, ◌<◌, ◌≤◌, ℤ, List, length, arith, sym, subst, ap, ◌∙◌}
+use Rattle.std.proofs.Common.{◌≡◌, ℕ, ◌+◌, ◌/◌, ◌%◌, ◌^◌, ◌<◌, ◌≤◌, ℤ, List, length, arith, sym}
+use Rattle.std.proofs.Common.{subst, ap, ◌∙◌}
 use Rattle.mc_model.specs.Ring.{plus, minus, rotations, length-plus, length-minus}
 use Rattle.mc_model.proofs.RingLemmas.{length-rotations}
-use Rattle.mc_cyclo.specs.Height.{height, height-plus, height-minus, height-rotations}
+use Rattle.mc_cyclo.specs.Height.{height}
+use Rattle.mc_cyclo.specs.Heights.{height-plus, height-minus, height-rotations}
 use Rattle.mc_cyclo.specs.Cyclo.{IsCyclo}
 use Rattle.mc_cyclo.proofs.Turning.{even_half_turns, odd_half_turns}
 

@@ -3,3 +3,4 @@ pub mod Turning
 pub mod Elements
 pub mod RootLemmas
 pub mod Phases
+pub mod RootCoordinates

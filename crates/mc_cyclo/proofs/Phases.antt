@@ -1,5 +1,6 @@
 -- Phases entry by entry.
-use Rattle.std.proofs.Common.{◌≡◌, ℕ, zero, suc, ◌<◌, ℤ, List, [], ◌∷◌, length, map, refl, arith, ap, ap₂, ◌∙◌, slice_index_or}
+use Rattle.std.proofs.Common.{◌≡◌, ℕ, zero, suc, ◌<◌, ℤ, List, [], ◌∷◌, length, map, refl, arith}
+use Rattle.std.proofs.Common.{ap, ap₂, ◌∙◌, slice_index_or}
 use Rattle.mc_model.specs.Ring.{rotated, rotations}
 use Rattle.mc_cyclo.specs.Phase.{IsPhase}
 

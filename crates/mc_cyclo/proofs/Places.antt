@@ -1,11 +1,15 @@
 -- How the operations on coordinates read by place.
-use Rattle.std.proofs.Common.{◌≡◌, ℕ, zero, suc, ◌+◌, ◌*◌, ◌<◌, ◌≤◌, ◌^◌, max, ℤ, pos, ◌+ℤ◌, refl, List, [], ◌∷◌, length, arith, sym, ap, ◌∙◌, get_or, drop, drop-cons, add-one}
+use Rattle.std.proofs.Common.{◌≡◌, ℕ, zero, suc, ◌+◌, ◌*◌, ◌<◌, ◌≤◌, ◌^◌, max, ℤ, pos, ◌+ℤ◌, refl}
+use Rattle.std.proofs.Common.{List, [], ◌∷◌, length, arith, sym, ap, ◌∙◌, get_or, drop, drop-cons}
+use Rattle.std.proofs.Common.{add-one}
 use Rattle.std.specs.Int.RustNames.{unsigned_abs}
 use lib.IntN.{◌*ℤ◌, neg_ℤ}
 use Rattle.std.proofs.lemmas.List.{ext_get_or}
 use Rattle.std.proofs.lemmas.Int.{unsigned_abs-mul}
-use Rattle.mc_model.specs.Ring.{plus, minus, scaled, zeros, rotated, times, length-plus, length-minus, length-scaled}
-use Rattle.mc_cyclo.specs.Height.{height, abs_add, height-plus, height-rotated}
+use Rattle.mc_model.specs.Ring.{plus, minus, scaled, zeros, rotated, times, length-plus}
+use Rattle.mc_model.specs.Ring.{length-minus, length-scaled}
+use Rattle.mc_cyclo.specs.Height.{height}
+use Rattle.mc_cyclo.specs.Heights.{abs_add, height-plus, height-rotated}
 
 -- the coordinate at j, or 0
 abbrev pub at : List ℤ → ℕ → ℤ

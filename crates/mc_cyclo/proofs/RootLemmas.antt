@@ -1,11 +1,16 @@
 -- The root of two times an element, and elements over powers of it.
-use Rattle.std.proofs.Common.{◌≡◌, ◌≢◌, ℕ, zero, suc, ◌+◌, ◌-◌, ◌*◌, ◌/◌, ◌<◌, ◌≤◌, ◌⊎◌, ℤ, ◌+ℤ◌, List, [], ◌∷◌, length, refl, arith, sym, ap, ap₂, ◌∙◌, inl, inr, IsTrue}
+use Rattle.std.proofs.Common.{◌≡◌, ◌≢◌, ℕ, zero, suc, ◌+◌, ◌-◌, ◌*◌, ◌/◌, ◌<◌, ◌≤◌, ◌⊎◌, ℤ, ◌+ℤ◌}
+use Rattle.std.proofs.Common.{List, [], ◌∷◌, length, refl, arith, sym, ap, ap₂, ◌∙◌, inl, inr}
+use Rattle.std.proofs.Common.{IsTrue}
 use Rattle.std.proofs.lemmas.Int.{ints}
 use Rattle.std.proofs.lemmas.Bool.Decides.{nat_tests}
 use Rattle.mc_model.specs.Roots.{root_times, root_powers, IsSameValue}
 use Rattle.mc_model.specs.Steps.{is_permitted}
-use Rattle.mc_model.specs.Ring.{ring, root_two, plus, minus, zeros, times, unit, rotations, length-unit, length-minus, length-times}
-use Rattle.mc_model.proofs.RingLemmas.{turn_coefficients, times_comm, times_assoc, times_plus, times_one, times_zeros, times_rotations, rotations_half, rotations_add, length-rotations}
+use Rattle.mc_model.specs.Ring.{ring, root_two, plus, minus, zeros, times, unit, rotations}
+use Rattle.mc_model.specs.Ring.{length-unit, length-minus, length-times}
+use Rattle.mc_model.proofs.RingLemmas.{turn_coefficients, times_comm, times_assoc, times_plus}
+use Rattle.mc_model.proofs.RingLemmas.{times_one, times_zeros, times_rotations, rotations_half}
+use Rattle.mc_model.proofs.RingLemmas.{rotations_add, length-rotations}
 use Rattle.mc_model.proofs.RootTwo.{root_squared}
 use Rattle.mc_cyclo.specs.Cyclo.{IsLong}
 

@@ -1,9 +1,13 @@
 -- Turns by parts of the list: what goes round comes back in front, as its negative.
-use Rattle.std.proofs.Common.{◌≡◌, ℕ, zero, suc, ◌+◌, ◌-◌, ◌*◌, ◌/◌, ◌%◌, ◌<◌, ◌≤◌, ℤ, List, [], ◌∷◌, ◌++◌, length, arith, sym, ap, ap₂, ◌∙◌, drop, take, slice_set, neg_ℤ, pos}
-use Rattle.std.proofs.lemmas.List.{take-append-drop, length-drop, get_or_append_left, get_or-append_right, get_or-drop, get_or-take}
+use Rattle.std.proofs.Common.{◌≡◌, ℕ, zero, suc, ◌+◌, ◌-◌, ◌*◌, ◌/◌, ◌%◌, ◌<◌, ◌≤◌, ℤ, List, []}
+use Rattle.std.proofs.Common.{◌∷◌, ◌++◌, length, arith, sym, ap, ap₂, ◌∙◌, drop, take, slice_set}
+use Rattle.std.proofs.Common.{neg_ℤ, pos}
+use Rattle.std.proofs.lemmas.List.{take-append-drop, length-drop, get_or_append_left}
+use Rattle.std.proofs.lemmas.List.{get_or-append_right, get_or-drop, get_or-take}
 use Rattle.std.proofs.Math.Seq.{take-append_seam, drop-append_seam}
 use Rattle.mc_model.specs.Ring.{minus, rotated, rotations, length-minus}
-use Rattle.mc_model.proofs.RingLemmas.{rotations_back, rotations_add, rotations_half, length-rotations}
+use Rattle.mc_model.proofs.RingLemmas.{rotations_back, rotations_add, rotations_half}
+use Rattle.mc_model.proofs.RingLemmas.{length-rotations}
 use Rattle.mc_model.proofs.RootTwo.{minus_minus}
 use Rattle.mc_cyclo.proofs.Places.{at, at-minus, drop-more, drop-whole}
 use Rattle.mc_cyclo.specs.Height.{height, IsInRange}

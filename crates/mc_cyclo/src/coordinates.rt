@@ -1,6 +1,7 @@
 //! Coordinates in place.
 
-ghost use Rattle.std.specs.Prelude.{◌≡◌, ◌+◌, ◌^◌, ◌<◌, ◌≤◌, ◌↔◌, length, slice_index_or, IsTrue, MatchOption, ◌+ℤ◌, ℤ, pos, List};
+ghost use Rattle.std.specs.Prelude.{◌≡◌, ◌+◌, ◌^◌, ◌<◌, ◌≤◌, ◌↔◌, length, slice_index_or, IsTrue};
+ghost use Rattle.std.specs.Prelude.{MatchOption, ◌+ℤ◌, ℤ, pos, List};
 ghost use lib.IntN.{neg_ℤ};
 ghost use Rattle.std.specs.Int.RustNames.{unsigned_abs};
 ghost use Rattle.mc_model.specs.Ring.{plus, minus, rotations};

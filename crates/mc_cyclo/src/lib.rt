@@ -4,6 +4,7 @@
 mod amp;
 mod coordinates;
 mod cyclo;
+mod laws;
 mod phase;
 mod product;
 #[cfg(test)]
@@ -12,4 +13,5 @@ mod text;
 
 pub use amp::Amp;
 pub use cyclo::Cyclo;
+pub use laws::{root_divides_eighths, root_divides_sixteenths};
 pub use phase::phase_between;

@@ -138,3 +138,65 @@ fn multiplies_matrices(rt: HostRuntime) {
     let two = of([2, 0, 0, 0]).unwrap_or(zero);
     assert_eq!(rt; entry_product(alloc, most, two), Err(MatEnd::Range));
 }
+
+// The rows of sixteenths were worked out in Python: products of lists modulo `w^8 + 1`, compared
+// with complex numbers at `w = e^(iπ/8)`.
+
+fn of_sixteenths(c: [i64; 8]) -> Option<Cyclo<8>> {
+    Cyclo::of(&c)
+}
+
+#[test]
+fn multiplies_sixteenths(rt: HostRuntime) {
+    let one: Cyclo<8> = Cyclo::one();
+    let a = of_sixteenths([1, 2, 3, 4, 5, 6, 7, 8]).unwrap_or(one);
+    let b = of_sixteenths([8, 7, 6, 5, 4, 3, 2, 1]).unwrap_or(one);
+    assert_eq!(rt;
+        a.mul(&b),
+        of_sixteenths([-160, -110, -56, 0, 56, 110, 160, 204])
+    );
+    assert_eq!(rt;
+        plus_turned(&b, &a, 11),
+        of_sixteenths([14, 14, 14, 4, 2, 0, -2, -4])
+    );
+    assert_eq!(rt;
+        a.cross(&b, 5).1,
+        of_sixteenths([6, 6, 6, 6, 6, -2, 0, 2]).unwrap_or(one)
+    );
+    assert_eq!(rt; phase_between(&[a.turn(13)], &[a]), Some(13));
+}
+
+#[test]
+fn reduces_sixteenths(rt: HostRuntime) {
+    let one: Cyclo<8> = Cyclo::one();
+    for (c, halves, num, least, text) in [
+        (
+            [2, 0, 0, 0, 0, 0, 0, 0],
+            1,
+            [0, 0, 1, 0, 0, 0, -1, 0],
+            0,
+            "0 0 1 0 0 0 -1 0 / 0",
+        ),
+        (
+            [0, 1, 0, 0, 0, 0, 0, 0],
+            1,
+            [0, 1, 0, 0, 0, 0, 0, 0],
+            1,
+            "0 1 0 0 0 0 0 0 / 1",
+        ),
+        (
+            [1, 1, 0, 0, 1, 3, 0, 0],
+            3,
+            [0, 0, 1, 2, 0, 0, 0, 1],
+            2,
+            "0 0 1 2 0 0 0 1 / 2",
+        ),
+    ] {
+        let amp = Amp::reduced(of_sixteenths(c).unwrap_or(one), halves);
+        assert_eq!(rt; Some(amp.num()), of_sixteenths(num), "{text}");
+        assert_eq!(rt; amp.halves(), least, "{text}");
+        let mut out = Vec::new(rt.alloc());
+        assert_eq!(rt; amp.print(&mut out), Ok(()));
+        assert_eq!(rt; out.as_slice(), text.as_bytes());
+    }
+}

@@ -1,7 +1,9 @@
 use Rattle.std.proofs.Common.{arith, rules, ◌≡◌, ◌%◌, ◌/◌, ◌≤◌, ◌++◌, ◌∙◌, sym, ap, length, drop}
 use Rattle.mc_model.specs.Ring.{minus, rotations}
-use Rattle.mc_cyclo.specs.Height.{height, height-rotations}
-use Rattle.mc_cyclo.proofs.Turning.{turned_by_parts, round_in_range, even_half_turns, odd_half_turns}
+use Rattle.mc_cyclo.specs.Height.{height}
+use Rattle.mc_cyclo.specs.Heights.{height-rotations}
+use Rattle.mc_cyclo.proofs.Turning.{turned_by_parts, round_in_range, even_half_turns}
+use Rattle.mc_cyclo.proofs.Turning.{odd_half_turns}
 use Rattle.mc_cyclo.proofs.coordinates.turn.Goals as goal
 
 pub negate-requires : goal.negate-requires

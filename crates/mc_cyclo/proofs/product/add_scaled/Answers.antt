@@ -1,4 +1,5 @@
-use Rattle.std.proofs.Common.{arith, ◌≡◌, ◌≢◌, ◌<◌, ◌∙◌, ap, length, below_more, get_or-set_same, get_or-set_other, w64, FitsSigned, ◌+ℤ◌}
+use Rattle.std.proofs.Common.{arith, ◌≡◌, ◌≢◌, ◌<◌, ◌∙◌, ap, length, below_more, get_or-set_same}
+use Rattle.std.proofs.Common.{get_or-set_other, w64, FitsSigned, ◌+ℤ◌}
 use Rattle.std.proofs.lemmas.Int.{ints, to_z-of_z, fits_signed_from_abs}
 use lib.IntN.{◌*ℤ◌}
 use mir.Syntax.{w128}

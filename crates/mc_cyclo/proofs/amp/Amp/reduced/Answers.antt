@@ -1,7 +1,8 @@
 use Rattle.std.proofs.Common.{rules, arith, ◌≡◌, suc, ◌-◌, ◌∙◌, sym, ap, subst}
 use Rattle.mc_model.specs.Roots.{root_powers, IsSameValue}
 use Rattle.mc_model.specs.Ring.{zeros}
-use Rattle.mc_cyclo.proofs.RootLemmas.{permitted_quartered, powers-zeros, value_less, least_exponent}
+use Rattle.mc_cyclo.proofs.RootLemmas.{permitted_quartered, powers-zeros, value_less}
+use Rattle.mc_cyclo.proofs.RootLemmas.{least_exponent}
 use Rattle.mc_cyclo.proofs.amp.Amp.reduced.Goals as goal
 
 pub returns-then-same-clause-value : goal.returns-then-same-clause-value

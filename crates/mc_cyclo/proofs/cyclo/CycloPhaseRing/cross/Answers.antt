@@ -1,9 +1,11 @@
-use Rattle.std.proofs.Common.{arith, rules, ℕ, ◌≡◌, ◌+◌, ◌/◌, ◌%◌, ◌^◌, ◌<◌, ◌≤◌, ◌∙◌, sym, ap, ap₂, length, List, ℤ}
+use Rattle.std.proofs.Common.{arith, rules, ℕ, ◌≡◌, ◌+◌, ◌/◌, ◌%◌, ◌^◌, ◌<◌, ◌≤◌, ◌∙◌, sym, ap, ap₂}
+use Rattle.std.proofs.Common.{length, List, ℤ}
 use Rattle.mc_model.specs.Ring.{plus, minus, rotations, length-minus}
 use Rattle.mc_model.proofs.RingLemmas.{length-rotations}
 use Rattle.mc_model.proofs.RootTwo.{minus_minus}
-use Rattle.mc_cyclo.specs.Cyclo.{permitted_positive}
-use Rattle.mc_cyclo.specs.Height.{height, height-minus, height-rotations}
+use Rattle.mc_cyclo.specs.CycloLaws.{permitted_positive}
+use Rattle.mc_cyclo.specs.Height.{height}
+use Rattle.mc_cyclo.specs.Heights.{height-minus, height-rotations}
 use Rattle.mc_cyclo.proofs.Elements.{IsCyclo-sum, even_turns, odd_turns}
 use Rattle.mc_cyclo.proofs.cyclo.CycloPhaseRing.cross.Goals as goal
 
