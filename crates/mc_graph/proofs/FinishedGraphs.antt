@@ -1,17 +1,15 @@
 -- Outputs that break no rule make an open graph.
-use Rattle.std.proofs.Common.{◌≡◌, ℕ, ◌<◌, Bool, true, false, not, ◌&&◌, ◌||◌, List, length, Some, None, refl, sym, ◌∙◌, ap, ap₂}
-use Rattle.std.specs.Prelude.{Option, is_none, is_some, nat_eq, if◌then◌else◌, count_by, cond}
+use Rattle.std.proofs.Common.{◌≡◌, ℕ, Bool, true, false, not, ◌&&◌, ◌||◌, List, Some, None, refl, sym, ◌∙◌, ap, ap₂}
+use Rattle.std.specs.Prelude.{Option, is_none, is_some, if◌then◌else◌, cond}
 use Rattle.std.specs.List.{list_any}
 use Rattle.std.proofs.lemmas.Bool.{or_parts, true≢false, false≢true}
-use mathlib.Core.Logic.{inl, inr}
-use Rattle.mc_model.specs.Bits.{Bits}
-use Rattle.mc_model.specs.Numbers.{numbers_from, is_member, ListsOnce}
-use Rattle.mc_model.specs.Graph.{OpenGraph, size, base_angle, Fixed, not_fixed, fixed_at, is_output, IsOpenGraph}
+use Rattle.mc_model.specs.Numbers.{numbers_from, ListsOnce}
+use Rattle.mc_model.specs.Graph.{OpenGraph, size, base_angle, Fixed, not_fixed, fixed_at}
 use Rattle.mc_model.proofs.NumberLists.{member_once}
 use Rattle.mc_pattern.specs.Rules.{is_stranger, is_twice, is_undone}
-use Rattle.mc_pattern.specs.Rules.{output_rule as qubit_rule, is_missing as is_missing_qubit}
-use Rattle.mc_pattern.proofs.RuleLaws.{lists_by, by_lists}
-use Rattle.mc_pattern.proofs.Members.{number_fails, no_number}
+use Rattle.mc_pattern.specs.Rules.{is_missing as is_missing_qubit}
+use Rattle.mc_pattern.proofs.RuleLaws.{lists_by}
+use Rattle.mc_pattern.proofs.Members.{number_fails}
 use Rattle.mc_graph.specs.Rules.{has_angle, is_missing, is_fixed_inside, output_rule}
 use Rattle.mc_graph.specs.Graphs.{IsGraph}
 use Rattle.mc_graph.specs.Building.{IsBegun, with_outputs}

@@ -15,3 +15,6 @@ pub mod PatternGraphs
 pub mod PlainGraphs
 pub mod MeasuredLists
 pub mod ZeroAmplitudes
+pub mod PatternSums
+pub mod SettledGraphs
+pub mod OneEdge

@@ -54,7 +54,7 @@ fixed_of_vertex half p q l =
     (length p.names) q not_fixed l
 
 -- the qubits that have an angle are those that are measured
-angle_where_measured : (cs : List Command) (q : ℕ) → is_none (angle_in cs q) ≡ not (measured cs q)
+pub angle_where_measured : (cs : List Command) (q : ℕ) → is_none (angle_in cs q) ≡ not (measured cs q)
 unfolding angle_in measured
 angle_where_measured [] q = refl
 angle_where_measured (Prep r ∷ cs) q = angle_where_measured cs q

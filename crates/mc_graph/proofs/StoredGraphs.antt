@@ -1,18 +1,17 @@
 -- A graph by its rows, where the rows are those of links.
-use Rattle.std.proofs.Common.{◌≡◌, ◌≢◌, ℕ, zero, suc, ◌<◌, Bool, true, false, ◌&&◌, ◌||◌, map, length, List, [], ◌∷◌, refl, sym, ◌∙◌, ap, ap₂, arith, slice_index_or}
-use Rattle.std.specs.Prelude.{nat_eq, nat_lt}
+use Rattle.std.proofs.Common.{◌≡◌, ℕ, ◌<◌, Bool, true, false, ◌&&◌, ◌||◌, map, length, List, [], ◌∷◌, refl, sym, ◌∙◌, ap, ap₂, arith, slice_index_or}
+use Rattle.std.specs.Prelude.{nat_eq}
 use Rattle.std.proofs.lemmas.List.{length-map}
-use Rattle.std.proofs.lemmas.Bool.{eqb-true, and_parts, cases_eq, lt-ltb, true≢false, false_from_ne_true}
+use Rattle.std.proofs.lemmas.Bool.{eqb-true, and_parts, cases_eq, lt-ltb, false_from_ne_true}
 use mathlib.Core.Logic.{inl, inr}
-use Rattle.mc_model.specs.Bits.{◌⊻◌, Bits}
+use Rattle.mc_model.specs.Bits.{◌⊻◌}
 use Rattle.mc_model.specs.Names.{Name}
 use Rattle.mc_model.specs.Numbers.{numbers_from, numbers_where, is_member, pairs_below}
 use Rattle.mc_model.specs.Graph.{Edge, edge, joins, EdgesRise, OpenGraph, size}
 use Rattle.mc_model.proofs.NumberLists.{numbers_where-same, length-numbers_from}
 use Rattle.mc_graph.specs.declared.label.Label.{Label}
 use Rattle.mc_graph.specs.Links.{linked, AreLinks}
-use Rattle.mc_graph.specs.Neighbours.{neighbours}
-use Rattle.mc_graph.specs.Graphs.{plain_fixed, graph_by, edges_of, IsGraph, IsStored}
+use Rattle.mc_graph.specs.Graphs.{graph_by, edges_of, IsGraph, IsStored}
 use Rattle.mc_graph.specs.Building.{graph_so_far, with_outputs}
 use Rattle.mc_graph.proofs.ListedNumbers.{member-where}
 use Rattle.mc_graph.proofs.RisingEdges.{pairs_rise}
@@ -85,18 +84,26 @@ graph_rows names inputs links labels outputs =
     ap (λ (es : List Edge). record (with_outputs (graph_so_far names inputs links labels) outputs)
     { edges = es }) (rows_edges links (length names))
 
-pub stored_rows : (half : ℕ) (names : List Name) (inputs : ℕ) (links : List Bool)
-    (labels : List (Label half)) (outputs : List ℕ) → AreLinks links →
-    IsGraph half (with_outputs (graph_so_far names inputs links labels) outputs) →
-    IsStored half (with_outputs (graph_so_far names inputs links labels) outputs)
-    (rows_of links (length names))
-stored_rows half names inputs links labels outputs are valid =
-    let n : ℕ = length names in
+-- a graph whose edges are the links
+pub stored_by : (half : ℕ) (g : OpenGraph) (links : List Bool) → AreLinks links →
+    g.edges ≡ pairs_below edge (linked links) (size g) (size g) → IsGraph half g →
+    IsStored half g (rows_of links (size g))
+stored_by half g links are edges valid =
+    let n : ℕ = size g in
     record {
       graph = valid;
       long = length-map (numbers_from 0 n) (λ v. numbers_where (linked links v) n)
           ∙ length-numbers_from 0 n;
       each = λ v l.
           row_at links n v l
-          ∙ numbers_where-same (linked links v) _ n (λ k m. row_joined links n v k are l m);
+          ∙ numbers_where-same (linked links v) (joins g.edges v) n (λ k m.
+          row_joined links n v k are l m ∙ ap (λ (es : List Edge). joins es v k) (sym edges));
     }
+
+pub stored_rows : (half : ℕ) (names : List Name) (inputs : ℕ) (links : List Bool)
+    (labels : List (Label half)) (outputs : List ℕ) → AreLinks links →
+    IsGraph half (with_outputs (graph_so_far names inputs links labels) outputs) →
+    IsStored half (with_outputs (graph_so_far names inputs links labels) outputs)
+    (rows_of links (length names))
+stored_rows half names inputs links labels outputs are valid =
+    stored_by half (with_outputs (graph_so_far names inputs links labels) outputs) links are refl valid

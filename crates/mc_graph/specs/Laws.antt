@@ -1,5 +1,5 @@
 -- The laws of the graphs of patterns, over the amplitude ring with any `half` above 0.
-use Rattle.std.specs.Prelude.{◌≡◌, ℕ, ◌*◌, ◌<◌, false, List, [], length, map, replicate, Some}
+use Rattle.std.specs.Prelude.{◌≡◌, ℕ, ◌*◌, ◌<◌, List, [], length, map, replicate, Some}
 use Rattle.mc_model.specs.Bits.{all_zero}
 use Rattle.mc_model.specs.Ring.{ring}
 use Rattle.mc_model.specs.Numbers.{numbers_from, pairs_below}

@@ -8,3 +8,4 @@ pub mod RowLists
 pub mod Flows
 pub mod Refuters
 pub mod Kept
+pub mod Sums

@@ -11,9 +11,11 @@ mod graph;
 mod label;
 mod laws;
 mod links;
+mod of_pattern;
 mod outputs;
 mod refuter;
 mod stuck;
+mod sums;
 
 pub use builder::{GraphBuilder, GraphEnd};
 pub use end::RowEnd;
@@ -24,5 +26,6 @@ pub use laws::{graphs_keep_zero_branch, graphs_without_constants};
 pub use mc_angle::Angle;
 pub use mc_names::{Name, Names};
 pub use mc_signal::QSet;
+pub use of_pattern::graph_of;
 pub use refuter::Refuter;
 pub use stuck::Stuck;
