@@ -6,5 +6,7 @@ mod graph;
 mod insert;
 mod rows;
 mod take;
+#[cfg(test)]
+mod tests;
 
 pub use find::{Found, find_flow};
