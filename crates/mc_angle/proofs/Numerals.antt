@@ -1,5 +1,8 @@
 -- Numbers in decimal are read as they are.
-use Rattle.std.proofs.Common.{◌≡◌, ℕ, ◌+◌, ◌-◌, ◌*◌, ◌/◌, ◌%◌, ◌^◌, ◌<◌, ◌≤◌, List, [], ◌∷◌, ◌++◌, Bool, true, false, not, ◌&&◌, ◌==◌, nat_le, ℤ, pos, length, refl, sym, ap, ◌∙◌, arith, lit<, IsTrue, mod-eq_of_lt}
+use Rattle.std.proofs.Common.{◌≡◌, ℕ, ◌+◌, ◌-◌, ◌*◌, ◌/◌, ◌%◌, ◌^◌, ◌<◌, ◌≤◌, List}
+use Rattle.std.proofs.Common.{[], ◌∷◌, ◌++◌}
+use Rattle.std.proofs.Common.{Bool, true, false, not, ◌&&◌, ◌==◌, nat_le, ℤ, pos, length, refl, sym}
+use Rattle.std.proofs.Common.{ap, ◌∙◌, arith, lit<, IsTrue, mod-eq_of_lt}
 use Rattle.std.specs.Fmt.{decimal}
 use Rattle.std.specs.List.{list_all}
 use Rattle.std.proofs.lemmas.Bool.{ne_eqb}

@@ -1,5 +1,6 @@
 -- The rules of a flow's rows are broken nowhere exactly where the rows are a flow.
-use Rattle.std.proofs.Common.{◌≡◌, ◌≢◌, ℕ, ◌<◌, ◌≤◌, Bool, true, false, ◌&&◌, ◌||◌, cond, not, List}
+use Rattle.std.proofs.Common.{◌≡◌, ◌≢◌, ℕ, ◌<◌, ◌≤◌, Bool, true, false, ◌&&◌, ◌||◌, cond, not}
+use Rattle.std.proofs.Common.{List}
 use Rattle.std.proofs.Common.{[], map, refl, sym, ◌∙◌, ap, subst, arith}
 use Rattle.std.specs.Prelude.{nat_eq, nat_lt, option_map, unwrap_or, All, Option, Some, None}
 use Rattle.std.specs.List.{list_any, AllByRecursion}

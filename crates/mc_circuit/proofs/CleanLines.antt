@@ -1,5 +1,8 @@
 -- Nothing is against the lines of a circuit's canonical text.
-use Rattle.std.proofs.Common.{◌≡◌, ℕ, suc, ◌+◌, ◌<◌, ◌≤◌, List, [], ◌∷◌, ◌++◌, All, Bool, true, false, ◌&&◌, Option, Some, None, length, map, codes, refl, sym, ◌∙◌, append_assoc, length-append, arith, ne_eqb, nat_eq, nat_le, cond, count_by, IsTrue, if◌then◌else◌}
+use Rattle.std.proofs.Common.{◌≡◌, ℕ, suc, ◌+◌, ◌<◌, ◌≤◌, List, [], ◌∷◌, ◌++◌, All, Bool, true}
+use Rattle.std.proofs.Common.{false, ◌&&◌, Option, Some, None, length, map, codes, refl, sym, ◌∙◌}
+use Rattle.std.proofs.Common.{append_assoc, length-append, arith, ne_eqb, nat_eq, nat_le, cond}
+use Rattle.std.proofs.Common.{count_by, IsTrue, if◌then◌else◌}
 use Rattle.std.specs.List.{flat_map, filter_map, list_all, list_any, IsDistinct}
 use Rattle.std.proofs.lemmas.Bool.{eq-eqb}
 use Rattle.std.proofs.lemmas.Bool.Decides.{nat_tests}
@@ -25,7 +28,8 @@ use Rattle.mc_text.proofs.Kept.{count_some, names_at-line}
 use Rattle.mc_text.proofs.Numbers.{listed-number}
 use Rattle.mc_text.proofs.Listed.{all_listed}
 use Rattle.mc_text.proofs.Clean.{CleanWords, Clean, more}
-use Rattle.mc_text.proofs.Naming.{place-name_at, held-name_at, is_name-name_at, numbers-name_at, any-count, distinct_front, names_apart}
+use Rattle.mc_text.proofs.Naming.{place-name_at, held-name_at, is_name-name_at, numbers-name_at}
+use Rattle.mc_text.proofs.Naming.{any-count, distinct_front, names_apart}
 use Rattle.mc_circuit.specs.Circuits.{AnglesFit}
 use Rattle.mc_circuit.specs.Roles.{role_in, role_of, defined, may_follow, is_defining, is_output}
 use Rattle.mc_circuit.specs.Value.{spelled_gate, spelled_gates}

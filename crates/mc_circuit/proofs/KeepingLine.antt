@@ -1,5 +1,7 @@
 -- The end of a line with nothing against it is kept.
-use Rattle.std.proofs.Common.{◌≡◌, ℕ, ◌<◌, ◌≤◌, List, [], ◌∷◌, ◌++◌, Bool, true, false, Option, Some, None, length, map, refl, sym, ap, ◌∙◌, length-append, arith, ne_eqb, inl, inr}
+use Rattle.std.proofs.Common.{◌≡◌, ℕ, ◌<◌, ◌≤◌, List, [], ◌∷◌, ◌++◌, Bool, true, false, Option}
+use Rattle.std.proofs.Common.{Some, None, length, map, refl, sym, ap, ◌∙◌, length-append, arith}
+use Rattle.std.proofs.Common.{ne_eqb, inl, inr}
 use Rattle.std.specs.List.{filter_map, list_all}
 use Rattle.std.specs.Option.{option_map, option_to_list}
 use Rattle.std.proofs.lemmas.List.{append-nil, map-append}
@@ -19,7 +21,8 @@ use Rattle.mc_text.proofs.Kept.{count_some, names_at-line}
 use Rattle.mc_circuit.specs.declared.gate.Gate.{Gate}
 use Rattle.mc_circuit.specs.declared.reader.Reader.{Reader}
 use Rattle.mc_circuit.specs.Gates.{plain_gate}
-use Rattle.mc_circuit.specs.Roles.{may_follow, role_of, output, is_defining, is_input, is_gate, is_output}
+use Rattle.mc_circuit.specs.Roles.{may_follow, role_of, output, is_defining, is_input, is_gate}
+use Rattle.mc_circuit.specs.Roles.{is_output}
 use Rattle.mc_circuit.specs.Value.{Spelled, spelled_by, spelled_gate, spelled_gates, gate_by}
 use Rattle.mc_circuit.specs.Judge.{lacks_by}
 use Rattle.mc_circuit.specs.Kept.{IsKept, Ends, is_closed}

@@ -1,5 +1,7 @@
 -- A word with nothing against it is kept.
-use Rattle.std.proofs.Common.{◌≡◌, ℕ, ◌<◌, ◌≤◌, List, [], ◌∷◌, ◌++◌, Bool, true, false, Option, Some, None, length, refl, sym, ◌∙◌, append_assoc, length-append, arith, ◌==◌, nat_le}
+use Rattle.std.proofs.Common.{◌≡◌, ℕ, ◌<◌, ◌≤◌, List, [], ◌∷◌, ◌++◌, Bool, true, false, Option}
+use Rattle.std.proofs.Common.{Some, None, length, refl, sym, ◌∙◌, append_assoc, length-append}
+use Rattle.std.proofs.Common.{arith, ◌==◌, nat_le}
 use Rattle.std.specs.List.{list_all}
 use Rattle.std.proofs.lemmas.Bool.{eq-eqb, eqb-true, true≢false}
 use Rattle.std.proofs.lemmas.Bool.Decides.{nat_tests}
@@ -17,12 +19,15 @@ use Rattle.mc_text.specs.Judged.{Words, Lines}
 use Rattle.mc_text.specs.Rules.{number_in, AreNumbers}
 use Rattle.mc_text.specs.Lists.{names_at, added, operand_at, next_operand}
 use Rattle.mc_text.proofs.Going.{head_at}
-use Rattle.mc_text.proofs.Kept.{names_at-word, added_none, place-more, number_in-more, numbers-more, operand_at-word}
+use Rattle.mc_text.proofs.Kept.{names_at-word, added_none, place-more, number_in-more, numbers-more}
+use Rattle.mc_text.proofs.Kept.{operand_at-word}
 use Rattle.mc_circuit.specs.declared.reader.Reader.{Reader}
-use Rattle.mc_circuit.specs.Roles.{may_follow, role_of, record_word, is_defining, is_input, is_gate, is_output}
+use Rattle.mc_circuit.specs.Roles.{may_follow, role_of, record_word, is_defining, is_input, is_gate}
+use Rattle.mc_circuit.specs.Roles.{is_output}
 use Rattle.mc_circuit.specs.Judge.{judge_by}
 use Rattle.mc_circuit.specs.Kept.{IsKept, Moves, opens, is_closed}
-use Rattle.mc_circuit.proofs.Keeping.{stands_at, gate_more, outputs_more, distinct_more, behind_closed}
+use Rattle.mc_circuit.proofs.Keeping.{stands_at, gate_more, outputs_more, distinct_more}
+use Rattle.mc_circuit.proofs.Keeping.{behind_closed}
 
 -- gates fit on more wires
 GatesFit-more : (wires wires' : ℕ) (gs : List plain.Gate) → wires ≤ wires' → GatesFit wires gs

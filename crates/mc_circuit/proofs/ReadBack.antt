@@ -1,5 +1,7 @@
 -- The canonical text of a circuit is read without a fault, as that circuit.
-use Rattle.std.proofs.Common.{◌≡◌, ℕ, suc, ◌<◌, List, [], ◌∷◌, ◌++◌, All, Bool, true, false, ◌&&◌, Option, Some, None, length, map, take, drop, codes, refl, sym, ap, ◌∙◌, length-append, arith, IsTrue, ◌≤◌}
+use Rattle.std.proofs.Common.{◌≡◌, ℕ, suc, ◌<◌, List, [], ◌∷◌, ◌++◌, All, Bool, true, false, ◌&&◌}
+use Rattle.std.proofs.Common.{Option, Some, None, length, map, take, drop, codes, refl, sym, ap}
+use Rattle.std.proofs.Common.{◌∙◌, length-append, arith, IsTrue, ◌≤◌}
 use Rattle.std.specs.Fmt.{decimal}
 use Rattle.std.specs.List.{flat_map, filter_map, list_all, IsDistinct, AllByRecursion}
 use Rattle.std.proofs.lemmas.Grind.{flat_map-append}
@@ -23,14 +25,17 @@ use Rattle.mc_text.specs.Judged.{Words, Lines, section_lines}
 use Rattle.mc_text.specs.Lists.{names_in, names_at}
 use Rattle.mc_text.proofs.Written.{is_written, is_written_line}
 use Rattle.mc_text.proofs.Clean.{CleanWords, Clean, last, more, IsRead, written_read}
-use Rattle.mc_text.proofs.Naming.{number-name_at, numbers-name_at, is_name-name_at, name_written, number_written}
+use Rattle.mc_text.proofs.Naming.{number-name_at, numbers-name_at, is_name-name_at, name_written}
+use Rattle.mc_text.proofs.Naming.{number_written}
 use Rattle.mc_circuit.specs.Circuits.{IsCircuit, AnglesFit}
 use Rattle.mc_circuit.specs.Roles.{is_defining, is_input, is_gate, is_output}
 use Rattle.mc_circuit.specs.Value.{spelled_by, spelled_gate, spelled_gates, gate_by, circuit_of}
 use Rattle.mc_circuit.specs.Judge.{circuit_rules}
-use Rattle.mc_circuit.specs.Canonical.{gate_line, plus_lines, circuit_lines, circuit_text, behind_header}
+use Rattle.mc_circuit.specs.Canonical.{gate_line, plus_lines, circuit_lines, circuit_text}
+use Rattle.mc_circuit.specs.Canonical.{behind_header}
 use Rattle.mc_circuit.proofs.KeepingLine.{last_head-more}
-use Rattle.mc_circuit.proofs.CleanLines.{IsOpen, takes_gates, define_words, gates_clean, outputs_begin, outputs_clean}
+use Rattle.mc_circuit.proofs.CleanLines.{IsOpen, takes_gates, define_words, gates_clean}
+use Rattle.mc_circuit.proofs.CleanLines.{outputs_begin, outputs_clean}
 
 -- the parts of a list
 and_both : (a b : Bool) → (a && b) ≡ true → (a ≡ true) × (b ≡ true)

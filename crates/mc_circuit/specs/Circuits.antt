@@ -1,5 +1,6 @@
 -- What every circuit keeps, and why a gate is refused.
-use Rattle.std.specs.Prelude.{ℕ, ◌*◌, ◌≤◌, ◌<◌, not, ◌&&◌, nat_lt, nat_eq, List, [], ◌∷◌, length, if◌then◌else◌, Option, None, Some, ⊤, IsTrue}
+use Rattle.std.specs.Prelude.{ℕ, ◌*◌, ◌≤◌, ◌<◌, not, ◌&&◌, nat_lt, nat_eq, List, [], ◌∷◌, length}
+use Rattle.std.specs.Prelude.{if◌then◌else◌, Option, None, Some, ⊤, IsTrue}
 use Rattle.mc_model.specs.Steps.{is_permitted}
 use Rattle.mc_model.specs.Limits.{most_gates}
 use Rattle.mc_model.specs.Pattern.{Circuit, Gate, J, CZ}

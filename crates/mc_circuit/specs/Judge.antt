@@ -1,16 +1,20 @@
 -- The rules and limits of a circuit's section.
-use Rattle.std.specs.Prelude.{ℕ, suc, List, [], ◌∷◌, Bool, true, false, not, ◌&&◌, nat_le, length, Option, None, Some}
+use Rattle.std.specs.Prelude.{ℕ, suc, List, [], ◌∷◌, Bool, true, false, not, ◌&&◌, nat_le, length}
+use Rattle.std.specs.Prelude.{Option, None, Some}
 use Rattle.std.specs.List.{list_all}
 use Rattle.mc_model.specs.Limits.{most_gates}
 use Rattle.mc_model.specs.Names.{name_eq, is_held}
 use Rattle.mc_text.specs.declared.head.Head.{Head}
-use Rattle.mc_text.specs.declared.fault.Fault.TheVariants.{NotFixed, LineEnds, Surplus, SameOperand, OutputsLack}
+use Rattle.mc_text.specs.declared.fault.Fault.TheVariants.{NotFixed, LineEnds, Surplus, SameOperand}
+use Rattle.mc_text.specs.declared.fault.Fault.TheVariants.{OutputsLack}
 use Rattle.mc_text.specs.Heads.{head_of}
 use Rattle.mc_text.specs.Points.{point_of}
 use Rattle.mc_text.specs.Judged.{Judgement, Rules}
-use Rattle.mc_text.specs.Rules.{broken, passed, or_next, new_name, known_name, listed_name, angle_word}
+use Rattle.mc_text.specs.Rules.{broken, passed, or_next, new_name, known_name, listed_name}
+use Rattle.mc_text.specs.Rules.{angle_word}
 use Rattle.mc_text.specs.Lists.{names_at, operand_at}
-use Rattle.mc_circuit.specs.Roles.{Role, record_word, defined, operand, angle, second, output, surplus, may_follow, role_of, is_defining, is_gate, is_output}
+use Rattle.mc_circuit.specs.Roles.{Role, record_word, defined, operand, angle, second, output}
+use Rattle.mc_circuit.specs.Roles.{surplus, may_follow, role_of, is_defining, is_gate, is_output}
 use Rattle.mc_circuit.specs.Value.{spelled_gates}
 
 -- whether a word is the first operand

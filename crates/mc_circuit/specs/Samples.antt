@@ -4,7 +4,10 @@ use Rattle.mc_lex.specs.Lines.{lines_of, end_of}
 use Rattle.mc_model.specs.Pattern.{Circuit, J, CZ}
 use Rattle.mc_text.specs.declared.head.Head.TheVariants as head
 use Rattle.mc_text.specs.declared.fault.Fault.{Fault}
-use Rattle.mc_text.specs.declared.fault.Fault.TheVariants.{StrayByte, NotFixed, LineEnds, Surplus, NotName, NotAngle, DefinedTwice, NotDefined, SameOperand, ListedTwice, OutputsLack, TextEnds}
+use Rattle.mc_text.specs.declared.fault.Fault.TheVariants.{StrayByte, NotFixed, LineEnds, Surplus}
+use Rattle.mc_text.specs.declared.fault.Fault.TheVariants.{NotName, NotAngle, DefinedTwice}
+use Rattle.mc_text.specs.declared.fault.Fault.TheVariants.{NotDefined, SameOperand, ListedTwice}
+use Rattle.mc_text.specs.declared.fault.Fault.TheVariants.{OutputsLack, TextEnds}
 use Rattle.mc_text.specs.Judged.{Judgement, fault, limit, Place, first_in_section, section_lines}
 use Rattle.mc_circuit.specs.Roles.{record_word}
 use Rattle.mc_circuit.specs.Value.{circuit_of}

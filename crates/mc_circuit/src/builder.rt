@@ -1,6 +1,8 @@
 //! Building circuits.
 
-ghost use Rattle.std.specs.Prelude.{◌≡◌, ◌↔◌, ℕ, ◌<◌, ◌≤◌, [], ◌∷◌, ◌++◌, length, map, Err, Some, None, OnOk, IfOk, OnErr, IfErr, IsTrue, true, nat_lt};
+ghost use Rattle.std.specs.Prelude.{◌≡◌, ◌↔◌, ℕ, ◌<◌, ◌≤◌, [], ◌∷◌, ◌++◌, length, map, Err};
+ghost use Rattle.std.specs.Prelude.{Some};
+ghost use Rattle.std.specs.Prelude.{None, OnOk, IfOk, OnErr, IfErr, IsTrue, true, nat_lt};
 ghost use Rattle.mc_model.specs.Steps.{is_permitted};
 ghost use Rattle.mc_model.specs.Limits.{most_qubits, most_gates};
 ghost use Rattle.mc_model.specs.Names.{place_of};
@@ -50,9 +52,19 @@ impl<const H: usize> Model for CircuitBuilder<H> {
 
     ghost Value = { Plain };
 
-    ghost view = { λ c. record { names = c.names; inputs = c.inputs; outputs = []; gates = map plain_gate c.gates.items } };
+    ghost view = { λ c. record {
+      names = c.names;
+      inputs = c.inputs;
+      outputs = [];
+      gates = map plain_gate c.gates.items;
+    } };
 
-    ghost invariant = { λ c. IsBegun H (record { names = c.names; inputs = c.inputs; outputs = []; gates = map plain_gate c.gates.items }) };
+    ghost invariant = { λ c. IsBegun H (record {
+      names = c.names;
+      inputs = c.inputs;
+      outputs = [];
+      gates = map plain_gate c.gates.items;
+    }) };
 }
 
 /// The least rule that a gate on so many wires breaks, if it breaks one.

@@ -26,9 +26,19 @@ impl<const H: usize> Model for Circuit<H> {
 
     ghost Value = { Plain };
 
-    ghost view = { λ c. record { names = c.names; inputs = c.inputs; outputs = c.out.items; gates = map plain_gate c.gates.items } };
+    ghost view = { λ c. record {
+      names = c.names;
+      inputs = c.inputs;
+      outputs = c.out.items;
+      gates = map plain_gate c.gates.items;
+    } };
 
-    ghost invariant = { λ c. IsCircuit H (record { names = c.names; inputs = c.inputs; outputs = c.out.items; gates = map plain_gate c.gates.items }) };
+    ghost invariant = { λ c. IsCircuit H (record {
+      names = c.names;
+      inputs = c.inputs;
+      outputs = c.out.items;
+      gates = map plain_gate c.gates.items;
+    }) };
 }
 
 impl<const H: usize> Circuit<H> {

@@ -1,6 +1,7 @@
 //! Printing a circuit.
 
-ghost use Rattle.std.specs.Prelude.{◌≡◌, ◌++◌, ◌∷◌, [], ◌<◌, ◌≤◌, All, IfOk, OnOk, length, map, codes, take, drop};
+ghost use Rattle.std.specs.Prelude.{◌≡◌, ◌++◌, ◌∷◌, [], ◌<◌, ◌≤◌, All, IfOk, OnOk, length, map};
+ghost use Rattle.std.specs.Prelude.{codes, take, drop};
 ghost use Rattle.mc_model.specs.Pattern.{J};
 ghost use Rattle.mc_model.specs.Valid.{GatesFit};
 ghost use Rattle.mc_write.specs.Text.{line_text, text_of};

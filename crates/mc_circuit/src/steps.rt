@@ -1,6 +1,8 @@
 //! What the words and the ends of the lines of a circuit do.
 
-ghost use Rattle.std.specs.Prelude.{◌≡◌, ◌↔◌, ℕ, ◌*◌, ◌<◌, List, Option, true, ◌++◌, ◌∷◌, [], length, map, OnOk, OnErr, IfOk, IfErr, IsTrue, Some, None, nat_eq};
+ghost use Rattle.std.specs.Prelude.{◌≡◌, ◌↔◌, ℕ, ◌*◌, ◌<◌, List, Option, true, ◌++◌, ◌∷◌, []};
+ghost use Rattle.std.specs.Prelude.{length, map, OnOk, OnErr, IfOk, IfErr, IsTrue, Some, None};
+ghost use Rattle.std.specs.Prelude.{nat_eq};
 ghost use Rattle.std.specs.List.{list_any, list_all};
 ghost use Rattle.mc_angle.specs.Angle.{angle_of};
 ghost use Rattle.mc_model.specs.Steps.{is_permitted};
@@ -133,7 +135,8 @@ pub(crate) fn take<const H: usize>(
     ensures ok { OnOk result (Moves kept.old kept.new point word.now) }
     ensures err { IfErr result (λ stop. (listed : List (List ℕ)) (first : Option (List ℕ))
         → Stands kept.old point listed first
-        → IsStop stop (judge_by kept.old.names listed first (length kept.old.gates.items) point.last (role_of point) word.now)) }
+        → IsStop stop (judge_by kept.old.names listed first (length kept.old.gates.items)
+        point.last (role_of point) word.now)) }
 {
     kept.gate = None;
     if point.count == 0 {

@@ -1,5 +1,6 @@
 -- What keeps an element in range.
-use Rattle.std.proofs.Common.{◌≡◌, ℕ, ◌+◌, ◌/◌, ◌%◌, ◌^◌, ◌<◌, ◌≤◌, ℤ, List, length, arith, sym}
+use Rattle.std.proofs.Common.{◌≡◌, ℕ, ◌+◌, ◌/◌, ◌%◌, ◌^◌, ◌<◌, ◌≤◌, ℤ, List, length, arith}
+use Rattle.std.proofs.Common.{sym}
 use Rattle.std.proofs.Common.{subst, ap, ◌∙◌}
 use Rattle.mc_model.specs.Ring.{plus, minus, rotations, length-plus, length-minus}
 use Rattle.mc_model.proofs.RingLemmas.{length-rotations}

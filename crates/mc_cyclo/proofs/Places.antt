@@ -1,5 +1,6 @@
 -- How the operations on coordinates read by place.
-use Rattle.std.proofs.Common.{◌≡◌, ℕ, zero, suc, ◌+◌, ◌*◌, ◌<◌, ◌≤◌, ◌^◌, max, ℤ, pos, ◌+ℤ◌, refl}
+use Rattle.std.proofs.Common.{◌≡◌, ℕ, zero, suc, ◌+◌, ◌*◌, ◌<◌, ◌≤◌, ◌^◌, max, ℤ, pos}
+use Rattle.std.proofs.Common.{◌+ℤ◌, refl}
 use Rattle.std.proofs.Common.{List, [], ◌∷◌, length, arith, sym, ap, ◌∙◌, get_or, drop, drop-cons}
 use Rattle.std.proofs.Common.{add-one}
 use Rattle.std.specs.Int.RustNames.{unsigned_abs}

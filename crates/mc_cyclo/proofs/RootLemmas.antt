@@ -1,5 +1,6 @@
 -- The root of two times an element, and elements over powers of it.
-use Rattle.std.proofs.Common.{◌≡◌, ◌≢◌, ℕ, zero, suc, ◌+◌, ◌-◌, ◌*◌, ◌/◌, ◌<◌, ◌≤◌, ◌⊎◌, ℤ, ◌+ℤ◌}
+use Rattle.std.proofs.Common.{◌≡◌, ◌≢◌, ℕ, zero, suc, ◌+◌, ◌-◌, ◌*◌, ◌/◌, ◌<◌, ◌≤◌}
+use Rattle.std.proofs.Common.{◌⊎◌, ℤ, ◌+ℤ◌}
 use Rattle.std.proofs.Common.{List, [], ◌∷◌, length, refl, arith, sym, ap, ap₂, ◌∙◌, inl, inr}
 use Rattle.std.proofs.Common.{IsTrue}
 use Rattle.std.proofs.lemmas.Int.{ints}

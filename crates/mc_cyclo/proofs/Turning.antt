@@ -1,5 +1,6 @@
 -- Turns by parts of the list: what goes round comes back in front, as its negative.
-use Rattle.std.proofs.Common.{◌≡◌, ℕ, zero, suc, ◌+◌, ◌-◌, ◌*◌, ◌/◌, ◌%◌, ◌<◌, ◌≤◌, ℤ, List, []}
+use Rattle.std.proofs.Common.{◌≡◌, ℕ, zero, suc, ◌+◌, ◌-◌, ◌*◌, ◌/◌, ◌%◌, ◌<◌, ◌≤◌, ℤ}
+use Rattle.std.proofs.Common.{List, []}
 use Rattle.std.proofs.Common.{◌∷◌, ◌++◌, length, arith, sym, ap, ap₂, ◌∙◌, drop, take, slice_set}
 use Rattle.std.proofs.Common.{neg_ℤ, pos}
 use Rattle.std.proofs.lemmas.List.{take-append-drop, length-drop, get_or_append_left}

@@ -1,5 +1,6 @@
 -- Heights of sums, negatives and turns.
-use Rattle.std.specs.Prelude.{◌≡◌, ℕ, zero, suc, ◌+◌, ◌≤◌, max, ℤ, ◌+ℤ◌, neg_ℤ, refl, List, [], ◌∷◌}
+use Rattle.std.specs.Prelude.{◌≡◌, ℕ, zero, suc, ◌+◌, ◌≤◌, max, ℤ, ◌+ℤ◌, neg_ℤ, refl, List, []}
+use Rattle.std.specs.Prelude.{◌∷◌}
 use Rattle.std.proofs.Common.{arith, ◌∙◌}
 use Rattle.std.proofs.lemmas.Int.{ints}
 use Rattle.std.specs.Int.RustNames.{unsigned_abs}

@@ -1,11 +1,7 @@
 //! The root of two by coordinates, each law on the contract of a function that does nothing.
 
-ghost use Rattle.mc_cyclo.specs.RootLaws.{
-  RootDividesEighths,
-  RootDividesSixteenths,
-  RootOfEighths,
-  RootOfSixteenths,
-};
+ghost use Rattle.mc_cyclo.specs.RootLaws.{RootDividesEighths, RootDividesSixteenths, RootOfEighths};
+ghost use Rattle.mc_cyclo.specs.RootLaws.{RootOfSixteenths};
 
 /// The root of two times an element, and which elements it divides, where a step is an eighth of a
 /// turn (Giles and Selinger 2013).

@@ -1,6 +1,7 @@
 //! A basis of columns of bits, which are inserted one by one.
 
-ghost use Rattle.std.specs.Prelude.{◌≡◌, ◌<◌, ◌≤◌, ◌+◌, ◌*◌, ◌||◌, ◌++◌, ◌∷◌, [], ◌↔◌, ℕ, true};
+ghost use Rattle.std.specs.Prelude.{◌≡◌, ◌<◌, ◌≤◌, ◌+◌, ◌*◌, ◌||◌, ◌++◌, ◌∷◌, []};
+ghost use Rattle.std.specs.Prelude.{◌↔◌, ℕ, true};
 ghost use Rattle.std.specs.Prelude.{false, nat_lt, length, IfOk};
 ghost use Rattle.mc_bits.specs.Rows.{bit_of};
 ghost use Rattle.mc_elim.specs.Basis.{count_of, IsSumOfInserted, IsLeastSolution, HasSolution};

@@ -1,6 +1,7 @@
 //! Additions of rows into others.
 
-ghost use Rattle.std.specs.Prelude.{◌≡◌, ◌≢◌, ◌<◌, ◌≤◌, ◌+◌, ◌||◌, ℕ, true, false, nat_eq, nat_lt};
+ghost use Rattle.std.specs.Prelude.{◌≡◌, ◌≢◌, ◌<◌, ◌≤◌, ◌+◌, ◌||◌, ℕ, true, false, nat_eq};
+ghost use Rattle.std.specs.Prelude.{nat_lt};
 ghost use Rattle.std.specs.Prelude.{length, slice_index, slice_set, cond};
 ghost use Rattle.mc_bits.specs.Rows.{row_sum};
 ghost use Rattle.mc_elim.specs.Tables.{row_at, entry, Cleared, CountsUpTo, IsReducedBy};

@@ -1,5 +1,6 @@
 -- The vertices that were passed in the order of measuring, and those that are current then.
-use Rattle.std.proofs.Common.{◌≡◌, ℕ, ◌<◌, ◌≤◌, Bool, true, false, ◌&&◌, ◌||◌, not, List, [], ◌∷◌}
+use Rattle.std.proofs.Common.{◌≡◌, ℕ, ◌<◌, ◌≤◌, Bool, true, false, ◌&&◌, ◌||◌, not, List, []}
+use Rattle.std.proofs.Common.{◌∷◌}
 use Rattle.std.proofs.Common.{refl, sym, ◌∙◌, ap, ap₂, arith}
 use Rattle.std.specs.Prelude.{nat_eq, unwrap_or, is_none, Option, Some, None}
 use Rattle.std.specs.List.{AllByRecursion}

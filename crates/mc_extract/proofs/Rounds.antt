@@ -1,5 +1,6 @@
 -- What the rounds leave: nothing, with a causal flow of least layers, or the greatest stuck set.
-use Rattle.std.proofs.Common.{◌≡◌, ℕ, zero, suc, ◌+◌, ◌<◌, ◌≤◌, Bool, true, false, cond, ◌&&◌, ◌||◌}
+use Rattle.std.proofs.Common.{◌≡◌, ℕ, zero, suc, ◌+◌, ◌<◌, ◌≤◌, Bool, true, false, cond, ◌&&◌}
+use Rattle.std.proofs.Common.{◌||◌}
 use Rattle.std.proofs.Common.{List, [], ◌∷◌, refl, sym, ◌∙◌, ap, ap₂, arith}
 use Rattle.std.specs.Prelude.{◌⊎◌, nat_eq, nat_lt, filter, find, unwrap_or, is_none, Option, Some}
 use Rattle.std.specs.Prelude.{None}

@@ -1,11 +1,13 @@
 //! The finder of causal flows, by rounds (Mhalla and Perdrix 2008).
 
-ghost use Rattle.std.specs.Prelude.{◌≡◌, ◌<◌, ◌≤◌, ◌+◌, not, true, All, IfOk, None, find, filter, map, length, slice_index_or};
+ghost use Rattle.std.specs.Prelude.{◌≡◌, ◌<◌, ◌≤◌, ◌+◌, not, true, All, IfOk, None, find, filter};
+ghost use Rattle.std.specs.Prelude.{map, length, slice_index_or};
 ghost use Rattle.std.specs.List.{list_any};
 ghost use Rattle.mc_model.specs.Numbers.{numbers_from};
 ghost use Rattle.mc_model.specs.Graph.{size};
 ghost use Rattle.mc_extract.specs.Rounds.{sole, is_some_of, taken_vertex};
-ghost use Rattle.mc_extract.specs.Finder.{left_in, with_taker, all_found, IsAtEnd, IsAnswer, SameLeft};
+ghost use Rattle.mc_extract.specs.Finder.{left_in, with_taker, all_found, IsAtEnd, IsAnswer};
+ghost use Rattle.mc_extract.specs.Finder.{SameLeft};
 
 use crate::adjacency::Adjacency;
 use crate::causal::Causal;

@@ -4,7 +4,8 @@ ghost use Rattle.std.specs.Prelude.{◌≡◌, ◌<◌, ◌≤◌, IfOk, map, le
 ghost use Rattle.mc_model.specs.Numbers.{numbers_from};
 ghost use Rattle.mc_model.specs.Graph.{size};
 ghost use Rattle.mc_model.specs.Made.{last_before, wire_of};
-ghost use Rattle.mc_extract.specs.Chains.{number_at, is_before, back_in, chain_in, firsts_in, place};
+ghost use Rattle.mc_extract.specs.Chains.{number_at, is_before, back_in, chain_in, firsts_in};
+ghost use Rattle.mc_extract.specs.Chains.{place};
 
 use crate::adjacency::Adjacency;
 use crate::order::push_if;

@@ -1,14 +1,18 @@
 -- What a builder of graphs keeps at each call.
-use Rattle.std.proofs.Common.{get_or, ◌≡◌, ◌≢◌, ℕ, zero, suc, ◌*◌, ◌<◌, Bool, true, false, not, ◌||◌, map, replicate, length, List, [], ◌∷◌, ◌++◌, Some, None, refl, sym, ◌∙◌, ap, ap₂, arith, set}
+use Rattle.std.proofs.Common.{get_or, ◌≡◌, ◌≢◌, ℕ, zero, suc, ◌*◌, ◌<◌, Bool, true, false, not}
+use Rattle.std.proofs.Common.{◌||◌, map, replicate, length, List, [], ◌∷◌, ◌++◌, Some, None, refl}
+use Rattle.std.proofs.Common.{sym, ◌∙◌, ap, ap₂, arith, set}
 use Rattle.std.specs.Prelude.{Option, nat_eq, nat_lt, slice_get, unwrap_or, IsTrue, if◌then◌else◌}
 use Rattle.std.proofs.lemmas.List.{map-append, length-append, length-replicate, map-set, length-set}
-use Rattle.std.proofs.lemmas.Bool.{cases_Bool, true≢false, false_from_ne_true, or_parts, ltb-true, lt-ltb, eq-eqb, ne_eqb}
+use Rattle.std.proofs.lemmas.Bool.{cases_Bool, true≢false, false_from_ne_true, or_parts, ltb-true}
+use Rattle.std.proofs.lemmas.Bool.{lt-ltb, eq-eqb, ne_eqb}
 use mathlib.Core.Logic.{inl, inr}
 use Rattle.mc_model.specs.Bits.{◌⊻◌, same_pair}
 use Rattle.mc_model.specs.Names.{Name, AreNames}
 use Rattle.mc_model.specs.Steps.{is_permitted}
 use Rattle.mc_model.specs.Numbers.{pairs_below}
-use Rattle.mc_model.specs.Graph.{Edge, edge, joins, EdgesRise, OpenGraph, size, fixed_at, Fixed, not_fixed}
+use Rattle.mc_model.specs.Graph.{Edge, edge, joins, EdgesRise, OpenGraph, size, fixed_at, Fixed}
+use Rattle.mc_model.specs.Graph.{not_fixed}
 use Rattle.mc_model.proofs.PairLemmas.{joins-pairs, pair_ends}
 use Rattle.std.proofs.Math.Seq.{map-set_same}
 use Rattle.std.proofs.lemmas.Option.{unwrap_or-slice_get}
@@ -17,7 +21,8 @@ use Rattle.mc_graph.specs.declared.fixed.Fixed as kept
 use Rattle.mc_graph.specs.declared.label.Label.{Label}
 use Rattle.mc_graph.specs.Graphs.{plain_fixed}
 use Rattle.mc_graph.specs.Links.{linked, AreLinks}
-use Rattle.mc_graph.specs.Building.{IsBuilt, graph_so_far, begun, with_vertex, with_edge, with_angle, with_fixed}
+use Rattle.mc_graph.specs.Building.{IsBuilt, graph_so_far, begun, with_vertex, with_edge}
+use Rattle.mc_graph.specs.Building.{with_angle, with_fixed}
 use Rattle.mc_pattern.specs.Rules.{is_stranger}
 use Rattle.mc_graph.specs.Rules.{edge_rule}
 use Rattle.mc_graph.proofs.RisingEdges.{pairs_rise}

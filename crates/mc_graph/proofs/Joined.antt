@@ -1,5 +1,6 @@
 -- Marks of joined pairs, when a pair is toggled.
-use Rattle.std.proofs.Common.{slice_index_or, replicate, zero, suc, ◌≡◌, ◌≢◌, ℕ, ◌+◌, ◌*◌, Bool, false, ◌&&◌, ◌||◌, List, length, refl, sym, ◌∙◌, ap₂, arith}
+use Rattle.std.proofs.Common.{slice_index_or, replicate, zero, suc, ◌≡◌, ◌≢◌, ℕ, ◌+◌, ◌*◌, Bool}
+use Rattle.std.proofs.Common.{false, ◌&&◌, ◌||◌, List, length, refl, sym, ◌∙◌, ap₂, arith}
 use Rattle.std.specs.Prelude.{nat_eq, nat_lt}
 use Rattle.std.proofs.lemmas.List.{length-replicate}
 use Rattle.std.proofs.lemmas.Bool.{eqb-true, and_parts, false_from_ne_true}

@@ -1,14 +1,19 @@
 -- Base angles and constants of the sums of a pattern's signals, when one more command is taken.
-use Rattle.std.proofs.Common.{◌≡◌, ℕ, zero, suc, ◌<◌, Bool, true, false, cond, ◌&&◌, List, [], ◌∷◌, ◌++◌, length, replicate, Some, None, refl, sym, ◌∙◌, ap, ap₂, arith, set, map, not, ◌*◌, ◌%◌, slice_index_or, append_assoc, append-nil, get_or-set_same, get_or-set_other}
+use Rattle.std.proofs.Common.{◌≡◌, ℕ, zero, suc, ◌<◌, Bool, true, false, cond, ◌&&◌, List, [], ◌∷◌}
+use Rattle.std.proofs.Common.{◌++◌, length, replicate, Some, None, refl, sym, ◌∙◌, ap, ap₂, arith}
+use Rattle.std.proofs.Common.{set, map, not, ◌*◌, ◌%◌, slice_index_or, append_assoc, append-nil}
+use Rattle.std.proofs.Common.{get_or-set_same, get_or-set_other}
 use Rattle.std.specs.Prelude.{Option, nat_eq, All, option_map, is_none}
-use Rattle.std.proofs.lemmas.Bool.{eq-eqb, ne_eqb, eqb-true, cases_eq, cases_Bool, or_parts, true≢false}
+use Rattle.std.proofs.lemmas.Bool.{eq-eqb, ne_eqb, eqb-true, cases_eq, cases_Bool, or_parts}
+use Rattle.std.proofs.lemmas.Bool.{true≢false}
 use Rattle.std.proofs.lemmas.List.{length-set, length-replicate, length-map}
 use mathlib.Core.Logic.{inl, inr}
 use Rattle.mc_model.specs.Bits.{◌⊻◌}
 use Rattle.mc_model.specs.Signals.{Signal, no_signal}
 use Rattle.mc_model.specs.Pattern.{Command, Prep, Ent, Meas, FixX, FixZ}
 use Rattle.mc_model.specs.Valid.{measured, FitsBehind}
-use Rattle.mc_model.specs.StandardForm.{sum_over_places, x_part, first_part, second_part, x_sum, first_sum, second_sum}
+use Rattle.mc_model.specs.StandardForm.{sum_over_places, x_part, first_part, second_part, x_sum}
+use Rattle.mc_model.specs.StandardForm.{first_sum, second_sum}
 use Rattle.mc_model.specs.Graph.{Fixed, not_fixed, angle_in, constants_at, turned_angle}
 use Rattle.mc_model.proofs.BitLemmas.{xor_assoc, xor_false}
 use Rattle.mc_pattern.specs.Rules.{operands}
@@ -19,7 +24,8 @@ use Rattle.mc_model.specs.Phase.{measured_angle}
 use Rattle.mc_graph.specs.Graphs.{plain_fixed}
 use Rattle.mc_graph.proofs.MappedReads.{read_mapped}
 use Rattle.mc_graph.proofs.PatternGraphs.{angle_where_measured}
-use Rattle.mc_graph.specs.Sums.{no_label, label_at, with_constants, with_base, taken_labels, settle, settled, AreSums, AreSettled}
+use Rattle.mc_graph.specs.Sums.{no_label, label_at, with_constants, with_base, taken_labels, settle}
+use Rattle.mc_graph.specs.Sums.{settled, AreSums, AreSettled}
 
 -- ---- constants of sums over places
 

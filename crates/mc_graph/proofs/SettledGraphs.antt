@@ -1,5 +1,7 @@
 -- The graph of a pattern by its links and labels.
-use Rattle.std.proofs.Common.{◌≡◌, ℕ, zero, suc, ◌+◌, ◌*◌, ◌%◌, ◌<◌, ◌≤◌, Bool, false, map, take, drop, length, List, [], ◌∷◌, ◌++◌, Some, None, refl, sym, ◌∙◌, ap, ap₂, arith, slice_index_or, IsTrue, cond}
+use Rattle.std.proofs.Common.{◌≡◌, ℕ, zero, suc, ◌+◌, ◌*◌, ◌%◌, ◌<◌, ◌≤◌, Bool, false, map, take}
+use Rattle.std.proofs.Common.{drop, length, List, [], ◌∷◌, ◌++◌, Some, None, refl, sym, ◌∙◌, ap}
+use Rattle.std.proofs.Common.{ap₂, arith, slice_index_or, IsTrue, cond}
 use Rattle.std.specs.Prelude.{Option, All, option_map}
 use Rattle.std.proofs.lemmas.Bool.{cases_lt, ne_eqb, false≢true}
 use Rattle.std.proofs.lemmas.List.{length-map, get_or_past}
@@ -12,7 +14,8 @@ use Rattle.mc_model.specs.Steps.{is_permitted}
 use Rattle.mc_model.specs.Pattern.{Command, Prep, Ent, Meas, FixX, FixZ, Pattern}
 use Rattle.mc_model.specs.Valid.{prepared, measured, FitsBehind, IsValidPattern}
 use Rattle.mc_model.specs.StandardForm.{is_edge}
-use Rattle.mc_model.specs.Graph.{OpenGraph, edge, size, base_angle, angle_in, turned_angle, not_fixed, constants_at, graph_of}
+use Rattle.mc_model.specs.Graph.{OpenGraph, edge, size, base_angle, angle_in, turned_angle}
+use Rattle.mc_model.specs.Graph.{not_fixed, constants_at, graph_of}
 use Rattle.mc_model.specs.Phase.{measured_angle}
 use Rattle.mc_model.proofs.ValidLemmas.{prepared-append}
 use Rattle.mc_pattern.specs.Rules.{operands, is_loop}

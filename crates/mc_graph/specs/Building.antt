@@ -1,10 +1,12 @@
 -- Graphs that are being built: what a builder keeps, and what each of its calls adds.
-use Rattle.std.specs.Prelude.{◌≡◌, ℕ, ◌*◌, ◌<◌, ◌≤◌, Bool, true, List, [], ◌∷◌, ◌++◌, map, length, replicate, IsTrue, None, Some, slice_set, ◌||◌}
+use Rattle.std.specs.Prelude.{◌≡◌, ℕ, ◌*◌, ◌<◌, ◌≤◌, Bool, true, List, [], ◌∷◌, ◌++◌, map}
+use Rattle.std.specs.Prelude.{length, replicate, IsTrue, None, Some, slice_set, ◌||◌}
 use Rattle.mc_model.specs.Bits.{same_pair}
 use Rattle.mc_model.specs.Names.{Name, AreNames, place_of}
 use Rattle.mc_model.specs.Numbers.{pairs_below}
 use Rattle.mc_model.specs.Steps.{is_permitted}
-use Rattle.mc_model.specs.Graph.{OpenGraph, edge, Fixed, not_fixed, size, joins, EdgesRise, base_angle}
+use Rattle.mc_model.specs.Graph.{OpenGraph, edge, Fixed, not_fixed, size, joins, EdgesRise}
+use Rattle.mc_model.specs.Graph.{base_angle}
 use Rattle.mc_graph.specs.Links.{linked, AreLinks}
 use Rattle.mc_graph.specs.declared.label.Label.{Label}
 use Rattle.mc_graph.specs.Graphs.{plain_fixed}

@@ -1,5 +1,6 @@
 -- When the rows of a flow are a flow of a graph, a causal flow, or those that are chosen.
-use Rattle.std.specs.Prelude.{◌≡◌, ◌⊎◌, ℕ, ◌<◌, not, List, [], ◌∷◌, map, length, option_map, unwrap_or, slice_index_or, All, ⊤}
+use Rattle.std.specs.Prelude.{◌≡◌, ◌⊎◌, ℕ, ◌<◌, not, List, [], ◌∷◌, map, length, option_map}
+use Rattle.std.specs.Prelude.{unwrap_or, slice_index_or, All, ⊤}
 use Rattle.mc_model.specs.Numbers.{is_member, ListsOnce}
 use Rattle.mc_model.specs.Bits.{Bits}
 use Rattle.mc_model.specs.Graph.{OpenGraph, size, is_output}

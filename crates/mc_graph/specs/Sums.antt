@@ -1,5 +1,6 @@
 -- Base angles and constants of the sums of a pattern's signals, command by command.
-use Rattle.std.specs.Prelude.{◌≡◌, ℕ, ◌*◌, ◌%◌, ◌<◌, Bool, length, option_map, false, cond, List, slice_index_or, slice_set, Option, None, Some}
+use Rattle.std.specs.Prelude.{◌≡◌, ℕ, ◌*◌, ◌%◌, ◌<◌, Bool, length, option_map, false, cond, List}
+use Rattle.std.specs.Prelude.{slice_index_or, slice_set, Option, None, Some}
 use Rattle.mc_model.specs.Bits.{◌⊻◌}
 use Rattle.mc_model.specs.Phase.{measured_angle}
 use Rattle.mc_model.specs.Pattern.{Command, Prep, Ent, Meas, FixX, FixZ}

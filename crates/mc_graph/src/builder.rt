@@ -1,14 +1,18 @@
 //! Building open graphs.
 
-ghost use Rattle.std.specs.Prelude.{◌≡◌, ◌↔◌, ℕ, ◌<◌, ◌≤◌, [], All, length, replicate, Err, Some, None, OnOk, IfOk, OnErr, IfErr, IsErrAnd, IsTrue, true};
+ghost use Rattle.std.specs.Prelude.{◌≡◌, ◌↔◌, ℕ, ◌<◌, ◌≤◌, [], All, length, replicate, Err, Some};
+ghost use Rattle.std.specs.Prelude.{None, OnOk, IfOk, OnErr, IfErr, IsErrAnd, IsTrue, true};
 ghost use Rattle.std.specs.List.{list_any};
 ghost use Rattle.mc_model.specs.Names.{place_of};
 ghost use Rattle.mc_model.specs.Numbers.{numbers_from};
 ghost use Rattle.mc_model.specs.Steps.{is_permitted};
 ghost use Rattle.mc_model.specs.Graph.{size, not_fixed, fixed_at, joins as is_joined};
-ghost use Rattle.mc_graph.specs.Rules.{has_angle as is_measured, edge_rule as broken_edge, angle_rule as broken_angle, fix_rule as broken_fix, output_rule as broken_outputs};
+ghost use Rattle.mc_graph.specs.Rules.{has_angle as is_measured, edge_rule as broken_edge};
+ghost use Rattle.mc_graph.specs.Rules.{angle_rule as broken_angle, fix_rule as broken_fix};
+ghost use Rattle.mc_graph.specs.Rules.{output_rule as broken_outputs};
 ghost use Rattle.mc_graph.specs.Rules.{is_missing, is_fixed_inside};
-ghost use Rattle.mc_graph.specs.Building.{begun, with_vertex, with_edge, with_angle, with_fixed, with_outputs, IsFree};
+ghost use Rattle.mc_graph.specs.Building.{begun, with_vertex, with_edge, with_angle, with_fixed};
+ghost use Rattle.mc_graph.specs.Building.{with_outputs, IsFree};
 
 use crate::fixed::Fixed;
 use crate::graph::OpenGraph;

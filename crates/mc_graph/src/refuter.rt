@@ -1,6 +1,7 @@
 //! Rows of refuters.
 
-ghost use Rattle.std.specs.Prelude.{◌≡◌, ◌↔◌, ◌<◌, [], ◌∷◌, ◌++◌, true, false, length, Err, Some, slice_get, OnOk, OnErr};
+ghost use Rattle.std.specs.Prelude.{◌≡◌, ◌↔◌, ◌<◌, [], ◌∷◌, ◌++◌, true, false, length, Err, Some};
+ghost use Rattle.std.specs.Prelude.{slice_get, OnOk, OnErr};
 ghost use Rattle.mc_graph.specs.RowLists.{has_row as has_line, HaveOwnVertices};
 ghost use Rattle.mc_graph.specs.Refuters.{RefuterLine};
 

@@ -1,13 +1,15 @@
 //! What the commands of a pattern make of its graph.
 
-ghost use Rattle.std.specs.Prelude.{◌≡◌, ◌≢◌, ℕ, ◌*◌, ◌%◌, ◌<◌, ◌≤◌, [], ◌∷◌, All, IfOk, IsTrue, cond, false, length, map, slice_set};
+ghost use Rattle.std.specs.Prelude.{◌≡◌, ◌≢◌, ℕ, ◌*◌, ◌%◌, ◌<◌, ◌≤◌, [], ◌∷◌, All, IfOk};
+ghost use Rattle.std.specs.Prelude.{IsTrue, cond, false, length, map, slice_set};
 ghost use Rattle.mc_model.specs.Bits.{◌⊻◌};
 ghost use Rattle.mc_model.specs.Phase.{negated, measured_angle};
 ghost use Rattle.mc_model.specs.StandardForm.{is_edge};
 ghost use Rattle.mc_pattern.specs.Commands.{plain_command};
 ghost use Rattle.mc_pattern.specs.Rules.{operands, is_loop};
 ghost use Rattle.mc_graph.specs.Links.{linked, AreLinks};
-ghost use Rattle.mc_graph.specs.Sums.{label_at, with_constants, with_base, taken_labels, settled, AreSums, AreSettled};
+ghost use Rattle.mc_graph.specs.Sums.{label_at, with_constants, with_base, taken_labels, settled};
+ghost use Rattle.mc_graph.specs.Sums.{AreSums, AreSettled};
 
 use crate::fixed::Fixed;
 use crate::label::Label;

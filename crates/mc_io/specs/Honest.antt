@@ -1,5 +1,7 @@
 -- A source and a sink in memory that never fail.
-use Rattle.std.specs.Prelude.{◌≡◌, ◌↔◌, ◌⊎◌, ℕ, ◌+◌, ◌<◌, List, ◌++◌, Bool, IsTrue, length, take, min, Option, Some, None, Result, IsOkAnd, if◌then◌else◌}
+use Rattle.std.specs.Prelude.{◌≡◌, ◌↔◌, ◌⊎◌, ℕ, ◌+◌, ◌<◌, List, ◌++◌, Bool, IsTrue, length}
+use Rattle.std.specs.Prelude.{take}
+use Rattle.std.specs.Prelude.{min, Option, Some, None, Result, IsOkAnd, if◌then◌else◌}
 
 -- one read: it gives as much as there is and the buffer holds
 abbrev pub HonestReads : {E : Type 0} → List ℕ → List ℕ → Result ℕ E → List ℕ → Type 0

@@ -1,5 +1,7 @@
 -- A source and a sink in memory, whose calls fail by a plan.
-use Rattle.std.specs.Prelude.{◌≡◌, ◌↔◌, ◌⊎◌, ℕ, ◌-◌, ◌<◌, ◌≤◌, List, ◌++◌, length, take, min, Result, MatchResult, IfOk, IsErr}
+use Rattle.std.specs.Prelude.{◌≡◌, ◌↔◌, ◌⊎◌, ℕ, ◌-◌, ◌<◌, ◌≤◌, List, ◌++◌, length, take}
+use Rattle.std.specs.Prelude.{min}
+use Rattle.std.specs.Prelude.{Result, MatchResult, IfOk, IsErr}
 use Rattle.mc_io.specs.Plan.{Plan, IsDueToFail, plan_after}
 
 -- a source: the bytes that are left, the most that a call gives, and the plan

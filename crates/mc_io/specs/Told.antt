@@ -1,5 +1,6 @@
 -- What a source has left and a sink was given, where they tell it.
-use Rattle.std.specs.Prelude.{◌≡◌, ℕ, List, [], ◌++◌, length, take, ⊤, ◌≤◌, ◌<◌, Option, None, Some, Result, MatchResult, IfOk}
+use Rattle.std.specs.Prelude.{◌≡◌, ℕ, List, [], ◌++◌, length, take, ⊤, ◌≤◌, ◌<◌, Option, None, Some}
+use Rattle.std.specs.Prelude.{Result, MatchResult, IfOk}
 use Rattle.std.specs.Io.KnownBytes.{Consumes}
 
 -- a source tells what is left after a call exactly where it did before

@@ -1,6 +1,7 @@
 //! Bytes that are kept up to a room.
 
-ghost use Rattle.std.specs.Prelude.{◌≡◌, ◌↔◌, ℕ, ◌-◌, ◌≤◌, ◌++◌, List, [], length, take, min, vec_len, vec_capacity, IfOk, IsTrue};
+ghost use Rattle.std.specs.Prelude.{◌≡◌, ◌↔◌, ℕ, ◌-◌, ◌≤◌, ◌++◌, List, [], length, take, min};
+ghost use Rattle.std.specs.Prelude.{vec_len, vec_capacity, IfOk, IsTrue};
 
 use mc_model::Memory;
 use std::alloc::Global;

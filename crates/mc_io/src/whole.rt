@@ -1,9 +1,11 @@
 //! All bytes of a source, and a whole text into a sink.
 
-ghost use Rattle.std.specs.Prelude.{◌≡◌, ◌+◌, ◌<◌, ◌≤◌, IfOk, IfErr, OnOk, OnErr, IfSome, length, vec_len, Err};
+ghost use Rattle.std.specs.Prelude.{◌≡◌, ◌+◌, ◌<◌, ◌≤◌, IfOk, IfErr, OnOk, OnErr, IfSome, length};
+ghost use Rattle.std.specs.Prelude.{vec_len, Err};
 ghost use Rattle.std.specs.Io.KnownBytes.{IsAtEnd};
 ghost use Rattle.mc_io.specs.Faults.{Rose, HasCause};
-ghost use Rattle.mc_io.specs.Told.{TellsAsBefore, Takes, TakesAtMost, AppendsWhereTold, AppendsPrefix};
+ghost use Rattle.mc_io.specs.Told.{TellsAsBefore, Takes, TakesAtMost, AppendsWhereTold};
+ghost use Rattle.mc_io.specs.Told.{AppendsPrefix};
 ghost use Rattle.mc_io.specs.Whole.{MakesReads, MakesWrites};
 
 use crate::end::{Failed, ReadEnd};

@@ -1,5 +1,6 @@
 -- The end place, byte by byte.
-use Rattle.std.proofs.Common.{◌≡◌, ℕ, suc, ◌+◌, ◌<◌, List, [], ◌∷◌, Bool, true, false, length, if◌then◌else◌, refl, sym, ◌∙◌, arith}
+use Rattle.std.proofs.Common.{◌≡◌, ℕ, suc, ◌+◌, ◌<◌, List, [], ◌∷◌, Bool, true, false, length}
+use Rattle.std.proofs.Common.{if◌then◌else◌, refl, sym, ◌∙◌, arith}
 use Rattle.mc_lex.specs.Bytes.{is_feed}
 use Rattle.mc_lex.specs.Lines.{parts_of, onto_first, end_at}
 use Rattle.mc_lex.proofs.Spots.{some_parts}

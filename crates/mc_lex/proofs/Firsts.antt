@@ -1,5 +1,7 @@
 -- The first line and the first token.
-use Rattle.std.proofs.Common.{◌≡◌, ℕ, ◌+◌, ◌-◌, ◌<◌, ◌≤◌, List, [], ◌∷◌, Bool, true, false, not, length, take, drop, Option, Some, None, refl, ap, ◌∙◌, arith, slice_index_or, IfNone, IfSome}
+use Rattle.std.proofs.Common.{◌≡◌, ℕ, ◌+◌, ◌-◌, ◌<◌, ◌≤◌, List, [], ◌∷◌, Bool, true, false, not}
+use Rattle.std.proofs.Common.{length, take, drop, Option, Some, None, refl, ap, ◌∙◌, arith}
+use Rattle.std.proofs.Common.{slice_index_or, IfNone, IfSome}
 use Rattle.std.specs.List.{prefix_len}
 use Rattle.std.proofs.lemmas.List.{length-take, length-drop, take_all, drop_all, drop-drop}
 use Rattle.mc_lex.specs.declared.token.Token.{Token}
@@ -8,7 +10,8 @@ use Rattle.mc_lex.specs.Bytes.{is_hash, is_blank, is_word_byte}
 use Rattle.mc_lex.specs.Lines.{Item, word, bad, tokens, with_items, lines_from}
 use Rattle.mc_lex.specs.First.{starts_blank}
 use Rattle.mc_lex.specs.Parts.{IsFirst}
-use Rattle.mc_lex.proofs.Steps.{feed_len, parts-first, parts-last, tokens-blanks, blanks-stop, tokens-word, tokens-bad}
+use Rattle.mc_lex.proofs.Steps.{feed_len, parts-first, parts-last, tokens-blanks, blanks-stop}
+use Rattle.mc_lex.proofs.Steps.{tokens-word, tokens-bad}
 
 -- behind the first element
 abbrev pub rest_of : List ℕ → List ℕ

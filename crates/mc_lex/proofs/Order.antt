@@ -1,10 +1,12 @@
 -- The tokens of a text stand in order.
-use Rattle.std.proofs.Common.{◌≡◌, ℕ, zero, suc, ◌+◌, ◌<◌, ◌≤◌, List, [], ◌∷◌, Bool, true, false, length, drop, refl, arith}
+use Rattle.std.proofs.Common.{◌≡◌, ℕ, zero, suc, ◌+◌, ◌<◌, ◌≤◌, List, [], ◌∷◌, Bool, true, false}
+use Rattle.std.proofs.Common.{length, drop, refl, arith}
 use Rattle.std.specs.List.{prefix_len}
 use Rattle.std.proofs.lemmas.List.{length-drop}
 use Rattle.std.proofs.lemmas.List.Folds.{length-prefix_len}
 use Rattle.mc_lex.specs.Bytes.{is_blank, is_word_byte}
-use Rattle.mc_lex.specs.Lines.{Item, word, bad, Line, tokens, visible, parts_of, with_items, numbered}
+use Rattle.mc_lex.specs.Lines.{Item, word, bad, Line, tokens, visible, parts_of, with_items}
+use Rattle.mc_lex.specs.Lines.{numbered}
 use Rattle.mc_lex.specs.Places.{InOrder, RisingFrom, LinesInOrder}
 use Rattle.mc_lex.proofs.Steps.{tokens-word, tokens-bad}
 

@@ -1,5 +1,8 @@
 -- Each token of a text stands at its place.
-use Rattle.std.proofs.Common.{◌≡◌, ℕ, zero, suc, ◌+◌, ◌-◌, ◌<◌, ◌≤◌, List, [], ◌∷◌, ◌++◌, Bool, true, false, not, length, take, drop, All, refl, sym, ap, ◌∙◌, arith, append_assoc, length-append, ◌⊎◌, inl, inr, subst}
+use Rattle.std.proofs.Common.{◌≡◌, ℕ, zero, suc, ◌+◌, ◌-◌, ◌<◌, ◌≤◌, List, [], ◌∷◌, ◌++◌}
+use Rattle.std.proofs.Common.{Bool}
+use Rattle.std.proofs.Common.{true, false, not, length, take, drop, All, refl, sym, ap, ◌∙◌, arith}
+use Rattle.std.proofs.Common.{append_assoc, length-append, ◌⊎◌, inl, inr, subst}
 use Rattle.std.specs.List.{prefix_len, list_all, sum_by}
 use Rattle.std.proofs.lemmas.Bool.Decides.{nat_tests}
 use Rattle.std.proofs.lemmas.List.{length-drop, take-append-drop, append-nil}
@@ -7,7 +10,8 @@ use Rattle.std.proofs.lemmas.List.Elements.{All-nil, All-cons, All-weaker}
 use Rattle.std.proofs.lemmas.List.Folds.{length-prefix_len}
 use Rattle.std.proofs.lemmas.List.Sums.{fold-append, sum_by-cons}
 use Rattle.mc_lex.specs.Bytes.{is_feed, is_hash, is_blank, is_word_byte}
-use Rattle.mc_lex.specs.Lines.{Item, word, bad, Line, starts_word, tokens, visible, parts_of, onto_first, line_of, with_items, numbered, lines_of}
+use Rattle.mc_lex.specs.Lines.{Item, word, bad, Line, starts_word, tokens, visible, parts_of}
+use Rattle.mc_lex.specs.Lines.{onto_first, line_of, with_items, numbered, lines_of}
 use Rattle.mc_lex.specs.Places.{offset, IsSlice, ends_word, IsRun, IsStray, IsAt, WordsAreSlices}
 use Rattle.mc_lex.proofs.Steps.{tokens-word, tokens-bad, run-stops}
 

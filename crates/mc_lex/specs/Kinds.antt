@@ -2,7 +2,8 @@
 use Rattle.std.specs.Prelude.{ℕ, List, [], ◌∷◌, nat_eq, find, codes, Option}
 use Rattle.std.specs.Cmp.Lexicographic.{pointwise}
 use Rattle.mc_lex.specs.declared.kind.Kind.{Kind}
-use Rattle.mc_lex.specs.declared.kind.Kind.TheVariants.{Circuit, Pattern, Graph, Change, Flow, NoFlow, NoCausal, Trace, Least, Gates}
+use Rattle.mc_lex.specs.declared.kind.Kind.TheVariants.{Circuit, Pattern, Graph, Change, Flow}
+use Rattle.mc_lex.specs.declared.kind.Kind.TheVariants.{NoFlow, NoCausal, Trace, Least, Gates}
 
 abbrev pub spelling : Kind → List ℕ
 spelling Circuit = codes "circuit"

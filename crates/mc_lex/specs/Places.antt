@@ -1,5 +1,7 @@
 -- Where the tokens of a text stand: laws of its lines.
-use Rattle.std.specs.Prelude.{◌≡◌, ℕ, ◌+◌, ◌-◌, ◌<◌, ◌≤◌, List, [], ◌∷◌, ◌++◌, Bool, true, false, length, take, fold, sum_by, All}
+use Rattle.std.specs.Prelude.{◌≡◌, ℕ, ◌+◌, ◌-◌, ◌<◌, ◌≤◌, List, [], ◌∷◌, ◌++◌, Bool, true}
+use Rattle.std.specs.Prelude.{false}
+use Rattle.std.specs.Prelude.{length, take, fold, sum_by, All}
 use Rattle.std.specs.List.{list_all}
 use Rattle.mc_lex.specs.Bytes.{is_blank, is_word_byte}
 use Rattle.mc_lex.specs.Lines.{Item, word, bad, Line, parts_of, starts_word, past_items, lines_of}

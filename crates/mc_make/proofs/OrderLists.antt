@@ -1,5 +1,6 @@
 -- The order of measuring has each vertex that is no output once, and falls.
-use Rattle.std.proofs.Common.{◌≡◌, ℕ, zero, suc, ◌+◌, ◌<◌, ◌≤◌, Bool, true, false, cond, ◌&&◌, ◌||◌}
+use Rattle.std.proofs.Common.{◌≡◌, ℕ, zero, suc, ◌+◌, ◌<◌, ◌≤◌, Bool, true, false, cond, ◌&&◌}
+use Rattle.std.proofs.Common.{◌||◌}
 use Rattle.std.proofs.Common.{not, List, [], ◌∷◌, ◌++◌, refl, sym, ◌∙◌, ap, ap₂}
 use Rattle.std.specs.Prelude.{nat_eq, nat_lt, count_by}
 use Rattle.std.specs.List.{AllByRecursion}

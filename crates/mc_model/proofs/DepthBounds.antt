@@ -1,5 +1,6 @@
 -- A bound of depth excludes every flow of lesser depth.
-use Rattle.std.specs.Prelude.{◌≡◌, ◌⊎◌, ℕ, zero, suc, ◌+◌, ◌<◌, ◌≤◌, Bool, true, false, not, ◌&&◌}
+use Rattle.std.specs.Prelude.{◌≡◌, ◌⊎◌, ℕ, zero, suc, ◌+◌, ◌<◌, ◌≤◌, Bool, true, false, not}
+use Rattle.std.specs.Prelude.{◌&&◌}
 use Rattle.std.specs.Prelude.{refl, nat_le, List, [], ◌∷◌, map, max, fold}
 use Rattle.std.proofs.Common.{arith, sym, ap, ap₂, ◌∙◌, inl, inr}
 use Rattle.std.proofs.lemmas.Bool.{cases_eq, cases_lt, le-leb, leb-true, leb-false, false≢true}

@@ -1,5 +1,6 @@
 -- Signals by their values: those with one value at all outcomes are one, and the empty one is 0.
-use Rattle.std.proofs.Common.{◌≡◌, ℕ, Bool, true, false, not, ◌&&◌, List, [], ◌∷◌, refl, sym, ◌∙◌, ap₂}
+use Rattle.std.proofs.Common.{◌≡◌, ℕ, Bool, true, false, not, ◌&&◌, List, [], ◌∷◌, refl, sym, ◌∙◌}
+use Rattle.std.proofs.Common.{ap₂}
 use Rattle.std.proofs.lemmas.Bool.{false≢true}
 use Rattle.mc_model.specs.Bits.{◌⊻◌, Bits, parity, all_zero}
 use Rattle.mc_model.specs.Signals.{Signal, value, is_nil, is_empty, IsRising}

@@ -1,5 +1,6 @@
 -- Depths: the longest chain of dependent measurements, and lower bounds on the depth of every flow.
-use Rattle.std.specs.Prelude.{◌≡◌, ◌⊎◌, ℕ, ◌<◌, ◌≤◌, true, false, ◌||◌, List, [], ◌∷◌, ◌++◌, length}
+use Rattle.std.specs.Prelude.{◌≡◌, ◌⊎◌, ℕ, ◌<◌, ◌≤◌, true, false, ◌||◌, List, [], ◌∷◌}
+use Rattle.std.specs.Prelude.{◌++◌, length}
 use Rattle.std.specs.Prelude.{⊤}
 use Rattle.mc_model.specs.Numbers.{is_member}
 use Rattle.mc_model.specs.Bits.{Bits}

@@ -1,5 +1,6 @@
 -- Open graphs, and the graph of a pattern.
-use Rattle.std.specs.Prelude.{◌≡◌, ◌⊎◌, ℕ, ◌<◌, ◌≤◌, ◌-◌, ◌*◌, ◌%◌, Bool, false, cond, not, ◌&&◌}
+use Rattle.std.specs.Prelude.{◌≡◌, ◌⊎◌, ℕ, ◌<◌, ◌≤◌, ◌-◌, ◌*◌, ◌%◌, Bool, false, cond, not}
+use Rattle.std.specs.Prelude.{◌&&◌}
 use Rattle.std.specs.Prelude.{nat_eq, nat_lt, List, [], ◌∷◌, ◌++◌, length, map, flat_map, All}
 use Rattle.std.specs.Prelude.{slice_get, unwrap_or, option_map, Option, Some, None, is_none, ⊤}
 use Rattle.mc_model.specs.Names.{Name, AreNames}

@@ -1,5 +1,6 @@
 -- The name that is computed is fresh, and fresh names are names.
-use Rattle.std.proofs.Common.{◌≡◌, ℕ, zero, suc, ◌+◌, ◌/◌, ◌%◌, ◌<◌, ◌≤◌, List, [], ◌∷◌, ◌++◌, Bool}
+use Rattle.std.proofs.Common.{◌≡◌, ℕ, zero, suc, ◌+◌, ◌/◌, ◌%◌, ◌<◌, ◌≤◌, List, [], ◌∷◌}
+use Rattle.std.proofs.Common.{◌++◌, Bool}
 use Rattle.std.proofs.Common.{true, false, ◌||◌, ◌&&◌, length, refl, sym, ◌∙◌, ap, arith, inl, inr}
 use Rattle.std.proofs.Common.{IsTrue, length-append}
 use Rattle.std.specs.Prelude.{nat_le, ◌==◌}

@@ -1,16 +1,20 @@
 -- The rules of the builder are those of valid patterns.
-use Rattle.std.proofs.Common.{◌≡◌, ℕ, ◌+◌, ◌<◌, ◌≤◌, Bool, true, false, cond, not, List, [], ◌∷◌, ◌++◌, refl, ◌∙◌, ap, arith, None, Some, Option}
+use Rattle.std.proofs.Common.{◌≡◌, ℕ, ◌+◌, ◌<◌, ◌≤◌, Bool, true, false, cond, not, List, [], ◌∷◌}
+use Rattle.std.proofs.Common.{◌++◌, refl, ◌∙◌, ap, arith, None, Some, Option}
 use Rattle.std.specs.Prelude.{nat_eq, nat_lt, count_by, All, if◌then◌else◌, ⊤}
 use Rattle.std.specs.List.{list_any}
-use Rattle.std.proofs.lemmas.Bool.{ne_eqb, eqb-false, ltb-true, ltb-false, lt-ltb, le-ltb, or_parts, or_from, not-false, not_from_true}
+use Rattle.std.proofs.lemmas.Bool.{ne_eqb, eqb-false, ltb-true, ltb-false, lt-ltb, le-ltb, or_parts}
+use Rattle.std.proofs.lemmas.Bool.{or_from, not-false, not_from_true}
 use Rattle.std.proofs.lemmas.List.Elements.{All-nil, All-cons}
 use Rattle.mc_model.specs.Bits.{Bits}
 use Rattle.mc_model.specs.Numbers.{is_member, ListsOnce}
 use Rattle.mc_model.specs.Pattern.{Command, Prep, Ent, Meas, FixX, FixZ}
 use Rattle.mc_model.specs.Valid.{AllDone, IsLive, FitsBehind, measured, prepared}
-use Rattle.mc_pattern.specs.Rules.{first_rule, command_rule, output_rule, is_prep, is_stranger, is_undone, is_twice, is_missing}
+use Rattle.mc_pattern.specs.Rules.{first_rule, command_rule, output_rule, is_prep, is_stranger}
+use Rattle.mc_pattern.specs.Rules.{is_undone, is_twice, is_missing}
 use Rattle.mc_pattern.specs.Typed.{IsTyped}
-use Rattle.mc_pattern.proofs.Members.{any_by, none_by, fails_by, member_counts, counts_member, no_member, below_by, no_number, number_fails}
+use Rattle.mc_pattern.proofs.Members.{any_by, none_by, fails_by, member_counts, counts_member}
+use Rattle.mc_pattern.proofs.Members.{no_member, below_by, no_number, number_fails}
 
 -- the number of the first of four tests that holds
 abbrev first_of : (ℕ → ℕ) → Bool → Bool → Bool → Bool → Option ℕ

@@ -1,5 +1,6 @@
 -- The rules that a builder tests, numbered from 1 to 8: why a command or outputs are refused.
-use Rattle.std.specs.Prelude.{ℕ, Bool, true, false, not, ◌&&◌, nat_eq, nat_lt, List, [], ◌∷◌, ◌++◌, length, count_by, Option, None, Some, if◌then◌else◌}
+use Rattle.std.specs.Prelude.{ℕ, Bool, true, false, not, ◌&&◌, nat_eq, nat_lt, List, [], ◌∷◌, ◌++◌}
+use Rattle.std.specs.Prelude.{length, count_by, Option, None, Some, if◌then◌else◌}
 use Rattle.std.specs.List.{list_any}
 use Rattle.mc_model.specs.Bits.{Bits, replaced}
 use Rattle.mc_model.specs.Numbers.{numbers_from, is_member}

@@ -1,6 +1,8 @@
 //! Building patterns.
 
-ghost use Rattle.std.specs.Prelude.{◌≡◌, ◌↔◌, ℕ, ◌<◌, ◌≤◌, [], ◌∷◌, ◌++◌, length, Err, Some, None, OnOk, IfOk, OnErr, IfErr, IsErrAnd, false, ◌⊎◌, IsTrue};
+ghost use Rattle.std.specs.Prelude.{◌≡◌, ◌↔◌, ℕ, ◌<◌, ◌≤◌, [], ◌∷◌, ◌++◌, length, Err, Some};
+ghost use Rattle.std.specs.Prelude.{None};
+ghost use Rattle.std.specs.Prelude.{OnOk, IfOk, OnErr, IfErr, IsErrAnd, false, ◌⊎◌, IsTrue};
 ghost use Rattle.std.specs.Option.{ForSome};
 ghost use Rattle.mc_model.specs.Steps.{is_permitted};
 ghost use Rattle.mc_model.specs.Limits.{most_qubits, most_commands};
@@ -177,9 +179,10 @@ impl<const H: usize> Builder<H> {
         }
     }
 
-    /// Adds a command that is no preparation. `Rule` gives the least rule that it breaks: 1, an operand is no qubit; 2, an operand
-    /// was measured; 3, both operands of `Ent` are one qubit; 4, a member of a signal was not measured before. Else `Limit`
-    /// comes where there are 262,144 commands. A refused command is dropped, and the builder is as it was.
+    /// Adds a command that is no preparation. `Rule` gives the least rule that it breaks: 1, an
+    /// operand is no qubit; 2, an operand was measured; 3, both operands of `Ent` are one qubit; 4, a
+    /// member of a signal was not measured before. Else `Limit` comes where there are 262,144
+    /// commands. A refused command is dropped, and the builder is as it was.
     pub fn push(&mut self, command: Command<H>) -> Result<(), PushEnd>
         requires { is_prep (plain_command command) ≡ false }
         ensures added { OnOk result (self.new ≡

@@ -27,8 +27,8 @@ fn want_of_memory(end: PushEnd) -> Memory
 }
 
 impl<const H: usize> Builder<H> {
-    /// Adds a qubit with a name that is free, and its preparation, and gives the qubit's number. Want of memory leaves the builder
-    /// as it was.
+    /// Adds a qubit with a name that is free, and its preparation, and gives the qubit's number.
+    /// Want of memory leaves the builder as it was.
     pub fn prep_free(&mut self, name: Name) -> Result<u16, Memory>
         requires { IsFree self.old name }
         ensures number { IfOk result (λ q. q ≡ length self.old.names) }
@@ -44,7 +44,8 @@ impl<const H: usize> Builder<H> {
         }
     }
 
-    /// Adds a command that is no preparation and may stand here. Want of memory drops the command and leaves the builder as it was.
+    /// Adds a command that is no preparation and may stand here. Want of memory drops the command
+    /// and leaves the builder as it was.
     pub fn push_fitting(&mut self, command: Command<H>) -> Result<(), Memory>
         requires no_prep { is_prep (plain_command command) ≡ false }
         requires fits { FitsBehind self.old.inputs self.old.commands (plain_command command) }

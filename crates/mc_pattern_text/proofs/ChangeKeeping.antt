@@ -1,5 +1,7 @@
 -- A word and a line of a change with nothing against them are kept.
-use Rattle.std.proofs.Common.{◌≡◌, ◌==◌, ℕ, zero, suc, ◌≤◌, Bool, true, false, List, [], ◌∷◌, ◌++◌, map, length, take, refl, sym, ap, ◌∙◌, arith, nat_lt, nat_le, Option, Some, None, slice_get, if◌then◌else◌}
+use Rattle.std.proofs.Common.{◌≡◌, ◌==◌, ℕ, zero, suc, ◌≤◌, Bool, true, false, List, [], ◌∷◌, ◌++◌}
+use Rattle.std.proofs.Common.{map, length, take, refl, sym, ap, ◌∙◌, arith, nat_lt, nat_le, Option}
+use Rattle.std.proofs.Common.{Some, None, slice_get, if◌then◌else◌}
 use Rattle.std.specs.List.{filter_map, list_all}
 use Rattle.std.proofs.lemmas.Bool.{eq-eqb, eqb-true, true≢false}
 use Rattle.std.proofs.lemmas.Bool.Decides.{nat_tests}
@@ -23,7 +25,8 @@ use Rattle.mc_pattern_text.specs.ChangeRoles.{may_follow, role_of, record_word, 
 use Rattle.mc_pattern_text.specs.ChangeValue.{spelled_row, spelled_rows, row_by}
 use Rattle.mc_pattern_text.specs.Value.{signal_by}
 use Rattle.mc_pattern_text.specs.ChangeJudge.{judge_by, lacks_by, members_in, rules_by}
-use Rattle.mc_pattern_text.specs.ChangeKept.{IsSignalOf, IsChangeKept, RowMoves, added_member, row_here}
+use Rattle.mc_pattern_text.specs.ChangeKept.{IsSignalOf, IsChangeKept, RowMoves, added_member}
+use Rattle.mc_pattern_text.specs.ChangeKept.{row_here}
 
 -- the signal without members
 where_none : (n q : ℕ) → let none : List ℕ = [] in numbers_where (is_member none) n ≡ none

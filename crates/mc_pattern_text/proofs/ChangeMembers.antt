@@ -1,5 +1,7 @@
 -- What a member of a row does.
-use Rattle.std.proofs.Common.{◌≡◌, Result, OnOk, Ok, Err, ℕ, nat_le, ne_eqb, ◌<◌, ◌≤◌, Bool, true, false, List, map, length, take, refl, sym, ap, ◌∙◌, arith, nat_eq, nat_lt, Some, None, slice_index_or}
+use Rattle.std.proofs.Common.{◌≡◌, Result, OnOk, Ok, Err, ℕ, nat_le, ne_eqb, ◌<◌, ◌≤◌, Bool, true}
+use Rattle.std.proofs.Common.{false, List, map, length, take, refl, sym, ap, ◌∙◌, arith, nat_eq}
+use Rattle.std.proofs.Common.{nat_lt, Some, None, slice_index_or}
 use Rattle.std.proofs.lemmas.Bool.Decides.{nat_tests}
 use Rattle.std.proofs.lemmas.Bool.{cases_Bool}
 use mathlib.Core.Logic.{inl, inr}

@@ -1,5 +1,8 @@
 -- The measured qubits in order, and their places.
-use Rattle.std.proofs.Common.{◌≡◌, map, ℕ, zero, suc, ◌+◌, ◌<◌, ◌≤◌, Bool, true, false, ◌&&◌, ◌||◌, List, [], ◌∷◌, ◌++◌, All, length, take, replicate, refl, sym, ap, ◌∙◌, arith, nat_eq, nat_lt, get_or, slice_index_or, min, eq-eqb, ne_eqb}
+use Rattle.std.proofs.Common.{◌≡◌, map, ℕ, zero, suc, ◌+◌, ◌<◌, ◌≤◌, Bool, true, false, ◌&&◌}
+use Rattle.std.proofs.Common.{◌||◌}
+use Rattle.std.proofs.Common.{List, [], ◌∷◌, ◌++◌, All, length, take, replicate, refl, sym, ap, ◌∙◌}
+use Rattle.std.proofs.Common.{arith, nat_eq, nat_lt, get_or, slice_index_or, min, eq-eqb, ne_eqb}
 use Rattle.std.specs.List.{AllByRecursion}
 use Rattle.std.specs.Prelude.{set}
 use Rattle.std.proofs.lemmas.Bool.{cases_eq}
@@ -9,7 +12,8 @@ use Rattle.std.proofs.lemmas.List.Elements.{All-from_recursion, filter_map-appen
 use Rattle.std.proofs.lemmas.Option.{slice_get-get_or}
 use mathlib.Core.Logic.{inl, inr}
 use Rattle.mc_model.specs.Numbers.{is_member}
-use Rattle.mc_model.specs.Pattern.{Command, Prep, Ent, Meas, FixX, FixZ, Pattern, measured_by, measured_order}
+use Rattle.mc_model.specs.Pattern.{Command, Prep, Ent, Meas, FixX, FixZ, Pattern, measured_by}
+use Rattle.mc_model.specs.Pattern.{measured_order}
 use Rattle.mc_model.specs.Valid.{IsValidPattern}
 use Rattle.mc_pattern_text.specs.ChangePlaces.{ArePlaces}
 use Rattle.mc_pattern_text.specs.Written.{AreNamed}

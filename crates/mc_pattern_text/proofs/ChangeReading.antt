@@ -1,5 +1,6 @@
 -- What is kept at the end is the change that the lines spell.
-use Rattle.std.proofs.Common.{◌≡◌, ℕ, List, [], ◌∷◌, Bool, true, false, not, ◌&&◌, Option, Some, None, length, take, refl, ◌∙◌, nat_lt, slice_get, if◌then◌else◌}
+use Rattle.std.proofs.Common.{◌≡◌, ℕ, List, [], ◌∷◌, Bool, true, false, not, ◌&&◌, Option, Some}
+use Rattle.std.proofs.Common.{None, length, take, refl, ◌∙◌, nat_lt, slice_get, if◌then◌else◌}
 use Rattle.std.proofs.lemmas.List.{take_all}
 use Rattle.mc_model.specs.Shift.{IsChangeOf}
 use Rattle.mc_model.specs.Names.{is_name, is_held}
@@ -8,13 +9,15 @@ use Rattle.mc_model.specs.Pattern.{Pattern, measured_order}
 use Rattle.mc_text.specs.declared.head.Head.{Head}
 use Rattle.mc_text.specs.declared.head.Head.TheVariants.{End}
 use Rattle.mc_text.specs.declared.fault.Fault.{Fault}
-use Rattle.mc_text.specs.declared.fault.Fault.TheVariants.{NotFixed, Surplus, NotName, NotDefined, ListedTwice, NotMeasured, OtherRow}
+use Rattle.mc_text.specs.declared.fault.Fault.TheVariants.{NotFixed, Surplus, NotName, NotDefined}
+use Rattle.mc_text.specs.declared.fault.Fault.TheVariants.{ListedTwice, NotMeasured, OtherRow}
 use Rattle.mc_text.specs.Heads.{head_of, is_end}
 use Rattle.mc_text.specs.Points.{point_of, last_head}
 use Rattle.mc_text.specs.Judged.{Judgement, fault, Lines}
 use Rattle.mc_text.specs.Rules.{broken, or_next, known_name, listed_name, number_in}
 use Rattle.mc_pattern_text.specs.declared.change_reader.ChangeReader.{ChangeReader}
-use Rattle.mc_pattern_text.specs.ChangeRoles.{ChangeRole, record_word, subject, member, surplus, may_follow, role_of}
+use Rattle.mc_pattern_text.specs.ChangeRoles.{ChangeRole, record_word, subject, member, surplus}
+use Rattle.mc_pattern_text.specs.ChangeRoles.{may_follow, role_of}
 use Rattle.mc_pattern_text.specs.ChangeJudge.{judge_by, lacks_by, rules_by, is_this, members_in}
 use Rattle.mc_pattern_text.specs.ChangeValue.{spelled_rows}
 use Rattle.mc_pattern_text.specs.ChangeKept.{IsChangeKept}

@@ -1,5 +1,7 @@
 -- Nothing is against the lines of the commands of a pattern's canonical text.
-use Rattle.std.proofs.Common.{◌≡◌, ℕ, zero, suc, ◌+◌, ◌<◌, ◌≤◌, Bool, true, false, ◌||◌, All, List, [], ◌∷◌, ◌++◌, length, map, take, drop, refl, sym, ap, ◌∙◌, append_assoc, arith, nat_eq, nat_le, Option, None}
+use Rattle.std.proofs.Common.{◌≡◌, ℕ, zero, suc, ◌+◌, ◌<◌, ◌≤◌, Bool, true, false, ◌||◌, All, List}
+use Rattle.std.proofs.Common.{[], ◌∷◌, ◌++◌, length, map, take, drop, refl, sym, ap, ◌∙◌}
+use Rattle.std.proofs.Common.{append_assoc, arith, nat_eq, nat_le, Option, None}
 use Rattle.std.specs.List.{IsDistinct, AllByRecursion}
 use Rattle.std.proofs.lemmas.Bool.{eqb-true}
 use Rattle.std.proofs.lemmas.Bool.Decides.{nat_tests}
@@ -19,9 +21,11 @@ use Rattle.mc_text.specs.Rules.{known_name}
 use Rattle.mc_text.specs.Lists.{names_at}
 use Rattle.mc_text.proofs.Clean.{CleanWords}
 use Rattle.mc_text.proofs.Naming.{held-name_at, is_name-name_at, numbers-name_at, place-name_at}
-use Rattle.mc_pattern_text.specs.Roles.{may_follow, follows_command, is_command, is_defining, is_output}
+use Rattle.mc_pattern_text.specs.Roles.{may_follow, follows_command, is_command, is_defining}
+use Rattle.mc_pattern_text.specs.Roles.{is_output}
 use Rattle.mc_pattern_text.specs.Value.{spelled_commands}
-use Rattle.mc_pattern_text.specs.Judge.{measured_in, still_name, member_name, next_record, pattern_rules}
+use Rattle.mc_pattern_text.specs.Judge.{measured_in, still_name, member_name, next_record}
+use Rattle.mc_pattern_text.specs.Judge.{pattern_rules}
 use Rattle.mc_pattern_text.proofs.NamedSignals.{member-listed, member_free}
 use Rattle.mc_pattern_text.proofs.Parts.{all_front, among, below_all}
 

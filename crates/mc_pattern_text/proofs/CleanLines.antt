@@ -1,5 +1,8 @@
 -- Nothing is against the lines of a pattern's canonical text.
-use Rattle.std.proofs.Common.{◌≡◌, ℕ, suc, ◌+◌, ◌*◌, ◌<◌, ◌≤◌, Bool, true, false, ◌&&◌, All, List, [], ◌∷◌, ◌++◌, length, map, take, drop, fold, codes, refl, sym, subst, ap, ◌∙◌, append_assoc, arith, ne_eqb, nat_le, ◌⊎◌, Option, Some, None, IsTrue, if◌then◌else◌}
+use Rattle.std.proofs.Common.{◌≡◌, ℕ, suc, ◌+◌, ◌*◌, ◌<◌, ◌≤◌, Bool, true, false, ◌&&◌, All, List}
+use Rattle.std.proofs.Common.{[], ◌∷◌, ◌++◌, length, map, take, drop, fold, codes, refl, sym, subst}
+use Rattle.std.proofs.Common.{ap, ◌∙◌, append_assoc, arith, ne_eqb, nat_le, ◌⊎◌, Option, Some, None}
+use Rattle.std.proofs.Common.{IsTrue, if◌then◌else◌}
 use Rattle.std.specs.Fmt.{decimal}
 use Rattle.std.specs.List.{list_all}
 use Rattle.std.specs.Option.{option_or}
@@ -33,7 +36,8 @@ use Rattle.mc_pattern_text.specs.Value.{is_first, is_second, word_under, words_u
 use Rattle.mc_pattern_text.specs.Judge.{measured_in, member_name, pattern_rules}
 use Rattle.mc_pattern_text.specs.Canonical.{marked, command_line}
 use Rattle.mc_pattern_text.proofs.Under.{onto_mark, mark_at}
-use Rattle.mc_pattern_text.proofs.CleanCommands.{AreThere, AreMembers, record_clean, still_clean, signal_members, members_clean, split_at}
+use Rattle.mc_pattern_text.proofs.CleanCommands.{AreThere, AreMembers, record_clean, still_clean}
+use Rattle.mc_pattern_text.proofs.CleanCommands.{signal_members, members_clean, split_at}
 use Rattle.mc_pattern_text.proofs.Parts.{and_both}
 
 -- the role of a word behind the first of a correction

@@ -1,5 +1,8 @@
 -- Nothing is against a pattern's canonical text.
-use Rattle.std.proofs.Common.{◌≡◌, ℕ, zero, suc, ◌+◌, ◌<◌, ◌≤◌, Bool, true, false, not, ◌||◌, All, List, [], ◌∷◌, ◌++◌, length, map, take, drop, codes, refl, sym, ap, ◌∙◌, append_assoc, length-append, arith, eq-eqb, ne_eqb, nat_eq, nat_le, Option, Some, IsTrue, if◌then◌else◌, cond, count_by, get_or}
+use Rattle.std.proofs.Common.{◌≡◌, ℕ, zero, suc, ◌+◌, ◌<◌, ◌≤◌, Bool, true, false, not, ◌||◌, All}
+use Rattle.std.proofs.Common.{List, [], ◌∷◌, ◌++◌, length, map, take, drop, codes, refl, sym, ap}
+use Rattle.std.proofs.Common.{◌∙◌, append_assoc, length-append, arith, eq-eqb, ne_eqb, nat_eq}
+use Rattle.std.proofs.Common.{nat_le, Option, Some, IsTrue, if◌then◌else◌, cond, count_by, get_or}
 use Rattle.std.specs.List.{filter_map, flat_map, list_all, IsDistinct}
 use Rattle.std.proofs.lemmas.Bool.{cases_Bool}
 use Rattle.std.proofs.lemmas.Bool.Decides.{nat_tests}
@@ -9,7 +12,8 @@ use Rattle.std.proofs.lemmas.List.Sums.{sum_by-append, sum_by-cons, list_all-fro
 use mathlib.Core.Logic.{inl, inr}
 use Rattle.mc_model.specs.Names.{Name, AreNames, name_eq, is_name}
 use Rattle.mc_model.specs.Numbers.{is_member}
-use Rattle.mc_model.specs.Pattern.{Command, Prep, Ent, Meas, FixX, FixZ, Pattern, measured_by, measured_order}
+use Rattle.mc_model.specs.Pattern.{Command, Prep, Ent, Meas, FixX, FixZ, Pattern, measured_by}
+use Rattle.mc_model.specs.Pattern.{measured_order}
 use Rattle.mc_model.specs.Steps.{is_permitted}
 use Rattle.mc_model.specs.Valid.{FitsBehind, IsValid, measured, prepared}
 use Rattle.mc_model.proofs.ValidLemmas.{prepared-append}
@@ -27,12 +31,14 @@ use Rattle.mc_text.proofs.Going.{head_at}
 use Rattle.mc_text.proofs.Kept.{count_some, names_at-line}
 use Rattle.mc_text.proofs.Clean.{CleanWords, Clean, last, more}
 use Rattle.mc_text.proofs.Naming.{distinct_front}
-use Rattle.mc_pattern_text.specs.Roles.{may_follow, role_of, role_in, follows_command, is_defining, is_measuring, is_output}
+use Rattle.mc_pattern_text.specs.Roles.{may_follow, role_of, role_in, follows_command, is_defining}
+use Rattle.mc_pattern_text.specs.Roles.{is_measuring, is_output}
 use Rattle.mc_pattern_text.specs.Value.{spelled_command, spelled_commands}
 use Rattle.mc_pattern_text.specs.Judge.{measured_in, is_settled, pattern_rules}
 use Rattle.mc_pattern_text.specs.Canonical.{command_line, pattern_lines}
 use Rattle.mc_pattern_text.proofs.NamedCommands.{measured_there}
-use Rattle.mc_pattern_text.proofs.CleanCommands.{IsAfter, AreThere, front_distinct, front_more, known_clean, measured_held, held_written}
+use Rattle.mc_pattern_text.proofs.CleanCommands.{IsAfter, AreThere, front_distinct, front_more}
+use Rattle.mc_pattern_text.proofs.CleanCommands.{known_clean, measured_held, held_written}
 use Rattle.mc_pattern_text.proofs.CleanLines.{command_clean}
 use Rattle.mc_pattern_text.proofs.Parts.{all_front, and_both, last_head-line}
 

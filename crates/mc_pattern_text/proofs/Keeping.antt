@@ -1,5 +1,7 @@
 -- What is kept of the words of a line goes on with one more word.
-use Rattle.std.proofs.Common.{◌≡◌, ℕ, zero, suc, ◌+◌, ◌<◌, List, [], ◌∷◌, ◌++◌, Bool, true, false, ◌||◌, ◌&&◌, Option, Some, None, length, map, refl, sym, subst, ap, ◌∙◌, arith, ◌==◌, nat_eq, ◌⊎◌, inl, inr}
+use Rattle.std.proofs.Common.{◌≡◌, ℕ, zero, suc, ◌+◌, ◌<◌, List, [], ◌∷◌, ◌++◌, Bool, true, false}
+use Rattle.std.proofs.Common.{◌||◌, ◌&&◌, Option, Some, None, length, map, refl, sym, subst, ap}
+use Rattle.std.proofs.Common.{◌∙◌, arith, ◌==◌, nat_eq, ◌⊎◌, inl, inr}
 use Rattle.std.specs.List.{list_all, slice_get}
 use Rattle.std.proofs.lemmas.Bool.{eqb-true}
 use Rattle.std.proofs.lemmas.List.{append-nil, map-append}
@@ -20,8 +22,10 @@ use Rattle.mc_text.proofs.Kept.{count_at, place-more, number_in-more, operand_at
 use Rattle.mc_pattern_text.specs.declared.reader.Operands.{Operands}
 use Rattle.mc_pattern_text.specs.Roles.{is_entangling, is_measuring, is_command, has_operand}
 use Rattle.mc_pattern_text.specs.Judge.{first_signal, second_signal}
-use Rattle.mc_pattern_text.specs.Kept.{AreMarked, AreDone, IsSecond, AreOperands, Joins, Fills, added_first, added_second}
-use Rattle.mc_pattern_text.proofs.Under.{IsOneOrNone, first_signal-word, second_signal-word, first_one, second_one}
+use Rattle.mc_pattern_text.specs.Kept.{AreMarked, AreDone, IsSecond, AreOperands, Joins, Fills}
+use Rattle.mc_pattern_text.specs.Kept.{added_first, added_second}
+use Rattle.mc_pattern_text.proofs.Under.{IsOneOrNone, first_signal-word, second_signal-word}
+use Rattle.mc_pattern_text.proofs.Under.{first_one, second_one}
 
 -- the names of a list are the same under more names
 and_first : (a b : Bool) → (a && b) ≡ true → (a ≡ true) × (b ≡ true)

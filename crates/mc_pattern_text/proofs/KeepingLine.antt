@@ -1,5 +1,7 @@
 -- The end of a line with nothing against it is kept.
-use Rattle.std.proofs.Common.{◌≡◌, ℕ, List, [], ◌∷◌, ◌++◌, Bool, true, false, ◌||◌, Option, Some, None, length, map, refl, sym, ap, ◌∙◌, arith, nat_eq, ne_eqb, ◌⊎◌, inl, inr}
+use Rattle.std.proofs.Common.{◌≡◌, ℕ, List, [], ◌∷◌, ◌++◌, Bool, true, false, ◌||◌, Option, Some}
+use Rattle.std.proofs.Common.{None, length, map, refl, sym, ap, ◌∙◌, arith, nat_eq, ne_eqb, ◌⊎◌}
+use Rattle.std.proofs.Common.{inl, inr}
 use Rattle.std.specs.List.{filter_map, list_all}
 use Rattle.std.specs.Option.{option_map, option_to_list}
 use Rattle.std.proofs.lemmas.Bool.{cases_Bool}
@@ -20,10 +22,12 @@ use Rattle.mc_text.proofs.Kept.{count_some, names_at-line, operands_at-some, ope
 use Rattle.mc_pattern.specs.Commands.{plain_command}
 use Rattle.mc_pattern_text.specs.declared.reader.Reader.{Reader}
 use Rattle.mc_pattern_text.specs.declared.reader.Operands.{Operands}
-use Rattle.mc_pattern_text.specs.Roles.{may_follow, role_of, output, is_defining, is_input, is_measuring, is_output, is_ending}
+use Rattle.mc_pattern_text.specs.Roles.{may_follow, role_of, output, is_defining, is_input}
+use Rattle.mc_pattern_text.specs.Roles.{is_measuring, is_output, is_ending}
 use Rattle.mc_pattern_text.specs.Value.{Spelled, spelled_command, spelled_commands, command_by}
 use Rattle.mc_pattern_text.specs.Judge.{Known, measured_in, is_settled, lacks_by, pattern_rules}
-use Rattle.mc_pattern_text.specs.Kept.{IsKept, AreMarked, AreOperands, Ends, is_still, is_closed, command_with}
+use Rattle.mc_pattern_text.specs.Kept.{IsKept, AreMarked, AreOperands, Ends, is_still, is_closed}
+use Rattle.mc_pattern_text.specs.Kept.{command_with}
 use Rattle.mc_pattern_text.proofs.Marked.{place-below}
 use Rattle.mc_pattern_text.proofs.Keeping.{marked-word}
 use Rattle.mc_pattern_text.proofs.KeepingWord.{known_of, count_kept, behind_closed}

@@ -1,5 +1,7 @@
 -- A word with nothing against it is kept.
-use Rattle.std.proofs.Common.{◌≡◌, ℕ, ◌<◌, ◌≤◌, List, [], ◌∷◌, ◌++◌, Bool, true, false, Option, Some, None, length, refl, sym, ap, ◌∙◌, append_assoc, length-append, arith, ◌==◌, ne_eqb, nat_le, if◌then◌else◌, ◌⊎◌, inl, inr}
+use Rattle.std.proofs.Common.{◌≡◌, ℕ, ◌<◌, ◌≤◌, List, [], ◌∷◌, ◌++◌, Bool, true, false, Option}
+use Rattle.std.proofs.Common.{Some, None, length, refl, sym, ap, ◌∙◌, append_assoc, length-append}
+use Rattle.std.proofs.Common.{arith, ◌==◌, ne_eqb, nat_le, if◌then◌else◌, ◌⊎◌, inl, inr}
 use Rattle.std.specs.List.{list_all, IsDistinct}
 use Rattle.std.specs.Cmp.Lexicographic.{nat_list_eq_equiv}
 use Rattle.std.proofs.lemmas.Bool.Decides.{nat_tests}
@@ -22,10 +24,14 @@ use Rattle.mc_text.proofs.Kept.{count_at, names_at-word, added_none, numbers-wor
 use Rattle.mc_text.proofs.Kept as lists
 use Rattle.mc_pattern_text.specs.declared.reader.Reader.{Reader}
 use Rattle.mc_pattern_text.specs.declared.reader.Operands.{Operands}
-use Rattle.mc_pattern_text.specs.Roles.{may_follow, role_of, is_defining, is_input, is_preparing, is_entangling, is_command, has_operand, is_output}
+use Rattle.mc_pattern_text.specs.Roles.{may_follow, role_of, is_defining, is_input, is_preparing}
+use Rattle.mc_pattern_text.specs.Roles.{is_entangling, is_command, has_operand, is_output}
 use Rattle.mc_pattern_text.specs.Value.{spelled_commands}
-use Rattle.mc_pattern_text.specs.Judge.{Known, measured_in, first_signal, second_signal, is_in_second, known_at, is_settled, output_name, next_record, judge_by, pattern_rules}
-use Rattle.mc_pattern_text.specs.Kept.{IsKept, AreMarked, AreOperands, IsOperand, Stands, known_by, Lists, Moves, is_still, opens, is_closed}
+use Rattle.mc_pattern_text.specs.Judge.{Known, measured_in, first_signal, second_signal}
+use Rattle.mc_pattern_text.specs.Judge.{is_in_second, known_at, is_settled, output_name}
+use Rattle.mc_pattern_text.specs.Judge.{next_record, judge_by, pattern_rules}
+use Rattle.mc_pattern_text.specs.Kept.{IsKept, AreMarked, AreOperands, IsOperand, Stands, known_by}
+use Rattle.mc_pattern_text.specs.Kept.{Lists, Moves, is_still, opens, is_closed}
 use Rattle.mc_pattern_text.proofs.Keeping.{marked-more, operands_more}
 
 -- record words by their tests

@@ -1,5 +1,6 @@
 -- The command that a line makes: it is the one that the line spells, and it may stand there.
-use Rattle.std.proofs.Common.{◌≡◌, ℕ, ◌<◌, List, [], ◌∷◌, ◌++◌, Bool, false, Option, Some, None, length, map, refl, sym, ap, ◌∙◌, lt-ltb, ne_eqb, if◌then◌else◌}
+use Rattle.std.proofs.Common.{◌≡◌, ℕ, ◌<◌, List, [], ◌∷◌, ◌++◌, Bool, false, Option, Some, None}
+use Rattle.std.proofs.Common.{length, map, refl, sym, ap, ◌∙◌, lt-ltb, ne_eqb, if◌then◌else◌}
 use Rattle.std.specs.List.{list_any, flat_map}
 use Rattle.std.specs.Option.{option_map}
 use Rattle.std.proofs.lemmas.List.{append-nil, length-map}
@@ -16,7 +17,8 @@ use Rattle.mc_text.specs.Judged.{Words, Lines}
 use Rattle.mc_text.specs.Lists.{names_in, names_at}
 use Rattle.mc_text.proofs.Kept.{number_in-more}
 use Rattle.mc_pattern.specs.Commands.{plain_command}
-use Rattle.mc_pattern.specs.Rules.{is_prep, first_rule, command_rule, is_stranger, is_undone, marked}
+use Rattle.mc_pattern.specs.Rules.{is_prep, first_rule, command_rule, is_stranger, is_undone}
+use Rattle.mc_pattern.specs.Rules.{marked}
 use Rattle.mc_pattern.specs.Typed.{IsTyped}
 use Rattle.mc_pattern.specs.Patterns.{IsBuilt, begun}
 use Rattle.mc_pattern.proofs.Built.{built_push}

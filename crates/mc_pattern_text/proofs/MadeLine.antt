@@ -1,5 +1,6 @@
 -- The pattern so far is valid behind each line with nothing against it.
-use Rattle.std.proofs.Common.{◌≡◌, ℕ, ◌<◌, List, [], ◌∷◌, ◌++◌, Bool, true, false, Option, Some, None, length, map, refl, sym, ap, ◌∙◌, arith, IsTrue}
+use Rattle.std.proofs.Common.{◌≡◌, ℕ, ◌<◌, List, [], ◌∷◌, ◌++◌, Bool, true, false, Option, Some}
+use Rattle.std.proofs.Common.{None, length, map, refl, sym, ap, ◌∙◌, arith, IsTrue}
 use Rattle.std.specs.List.{list_any}
 use Rattle.std.specs.Option.{option_to_list}
 use Rattle.std.proofs.lemmas.List.{length-map}
@@ -23,12 +24,14 @@ use Rattle.mc_pattern.specs.Rules.{is_undone}
 use Rattle.mc_pattern.specs.Patterns.{IsBuilt, begun}
 use Rattle.mc_pattern.proofs.Built.{built_prep}
 use Rattle.mc_pattern_text.specs.declared.reader.Reader.{Reader}
-use Rattle.mc_pattern_text.specs.Roles.{may_follow, role_of, is_defining, is_input, is_measuring, is_command}
+use Rattle.mc_pattern_text.specs.Roles.{may_follow, role_of, is_defining, is_input, is_measuring}
+use Rattle.mc_pattern_text.specs.Roles.{is_command}
 use Rattle.mc_pattern_text.specs.Judge.{lacks_by}
 use Rattle.mc_pattern_text.specs.Kept.{IsKept, Ends, signal_with, command_with}
 use Rattle.mc_pattern_text.proofs.Marked.{place-below, place-last}
 use Rattle.mc_pattern_text.proofs.KeepingWord.{known_of}
-use Rattle.mc_pattern_text.proofs.Made.{IsBuiltBehind, names_behind, names_stay, built_stays, built_more, rule_one, rule_two, none_undone}
+use Rattle.mc_pattern_text.proofs.Made.{IsBuiltBehind, names_behind, names_stay, built_stays}
+use Rattle.mc_pattern_text.proofs.Made.{built_more, rule_one, rule_two, none_undone}
 
 -- the section begins with its inputs
 first_line : (last : Option Head) → may_follow last (Some In) ≡ true → last ≡ None
@@ -42,7 +45,8 @@ first_line (Some Z) e = absurd (cc e)
 first_line (Some _) e = absurd (cc e)
 
 built_inputs : (half : ℕ) (names : List Name) (inputs : ℕ) (marks : List Bool)
-    → IsTrue (is_permitted half) → AreNames names → inputs ≡ length names → length marks ≡ 256 → bits_of marks ≡ measured []
+    → IsTrue (is_permitted half) → AreNames names → inputs ≡ length names
+    → length marks ≡ 256 → bits_of marks ≡ measured []
     → IsBuilt half (begun names inputs []) marks
 unfolding prepared
 built_inputs half names inputs marks permitted valid all long same = record {

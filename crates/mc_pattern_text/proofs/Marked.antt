@@ -1,5 +1,7 @@
 -- Names and the marks at their numbers.
-use Rattle.std.proofs.Common.{◌≡◌, ℕ, ◌<◌, List, [], ◌∷◌, ◌++◌, Bool, true, false, ◌||◌, Option, Some, None, length, map, refl, sym, ap, ◌∙◌, arith, nat_eq, length-append, get_or}
+use Rattle.std.proofs.Common.{◌≡◌, ℕ, ◌<◌, List, [], ◌∷◌, ◌++◌, Bool, true, false, ◌||◌, Option}
+use Rattle.std.proofs.Common.{Some, None, length, map, refl, sym, ap, ◌∙◌, arith, nat_eq}
+use Rattle.std.proofs.Common.{length-append, get_or}
 use Rattle.std.specs.List.{list_any, list_all, IsDistinct}
 use Rattle.std.proofs.lemmas.Bool.Decides.{nat_tests, Decides-eqb}
 use Rattle.std.proofs.lemmas.List.Quantifiers.{position-Some}
@@ -10,12 +12,14 @@ use Rattle.mc_model.specs.Bits.{Bits}
 use Rattle.mc_model.specs.Numbers.{is_member}
 use Rattle.mc_model.specs.Names.{name_eq, is_held, place_of}
 use Rattle.mc_names.specs.Stored.{name_eq-true}
-use Rattle.mc_text.specs.declared.fault.Fault.TheVariants.{Measured, SameOperand, ListedTwice, NotMeasured}
+use Rattle.mc_text.specs.declared.fault.Fault.TheVariants.{Measured, SameOperand, ListedTwice}
+use Rattle.mc_text.specs.declared.fault.Fault.TheVariants.{NotMeasured}
 use Rattle.mc_text.specs.Judged.{fault}
 use Rattle.mc_text.specs.Rules.{known_name, number_in, AreNumbers}
 use Rattle.mc_text.proofs.Numbers.{listed-number, place-same}
 use Rattle.mc_text.proofs.Listed.{place_at}
-use Rattle.mc_pattern_text.specs.Judge.{is_settled, still_name, second_name, output_name, member_name}
+use Rattle.mc_pattern_text.specs.Judge.{is_settled, still_name, second_name, output_name}
+use Rattle.mc_pattern_text.specs.Judge.{member_name}
 use Rattle.mc_pattern_text.specs.Kept.{AreMarked, IsOperand}
 
 pub place-below : (names : List (List ℕ)) (a : List ℕ) (q : ℕ) → place_of names a ≡ Some q

@@ -1,5 +1,8 @@
 -- Signals by the names of their members.
-use Rattle.std.proofs.Common.{◌≡◌, ℕ, ◌<◌, Bool, true, false, ◌&&◌, ◌||◌, List, [], ◌∷◌, ◌++◌, map, length, refl, sym, ap, ◌∙◌, arith, nat_eq, nat_lt, ne_eqb, Some, All, suc}
+use Rattle.std.proofs.Common.{◌≡◌, ℕ, ◌<◌, Bool, true, false, ◌&&◌, ◌||◌, List, [], ◌∷◌, ◌++◌}
+use Rattle.std.proofs.Common.{map}
+use Rattle.std.proofs.Common.{length, refl, sym, ap, ◌∙◌, arith, nat_eq, nat_lt, ne_eqb, Some, All}
+use Rattle.std.proofs.Common.{suc}
 use Rattle.std.specs.List.{list_all}
 use Rattle.std.proofs.lemmas.Bool.Decides.{nat_tests}
 use Rattle.std.proofs.lemmas.List.{map-append}
@@ -20,7 +23,8 @@ use Rattle.mc_pattern.specs.Typed.{IsSet}
 use Rattle.mc_pattern_text.specs.Value.{signal_by}
 use Rattle.mc_pattern_text.specs.ChangeKept.{IsSignalOf}
 use Rattle.mc_pattern_text.proofs.Marked.{member-any, place-below}
-use Rattle.mc_pattern_text.proofs.RisingSets.{member_where, same_where, toggled_where, where_members}
+use Rattle.mc_pattern_text.proofs.RisingSets.{member_where, same_where, toggled_where}
+use Rattle.mc_pattern_text.proofs.RisingSets.{where_members}
 use Rattle.mc_pattern_text.proofs.Parts.{all_front, among}
 
 -- a name is in a list where its number is among the numbers of the list

@@ -1,8 +1,10 @@
 -- Sections in which no limit can be passed.
-use Rattle.std.proofs.Common.{◌≡◌, ℕ, List, [], ◌∷◌, ◌++◌, Bool, true, false, Option, Some, None, refl, if◌then◌else◌}
+use Rattle.std.proofs.Common.{◌≡◌, ℕ, List, [], ◌∷◌, ◌++◌, Bool, true, false, Option, Some, None}
+use Rattle.std.proofs.Common.{refl, if◌then◌else◌}
 use Rattle.mc_lex.specs.declared.end.TextEnd.TheVariants as end
 use Rattle.mc_lex.specs.Lines.{Item, word, bad, Line}
-use Rattle.mc_text.specs.Judged.{Judgement, fault, limit, Place, Words, Lines, Rules, placed, or_later, first_in_line, first_in_section, is_last, words_of}
+use Rattle.mc_text.specs.Judged.{Judgement, fault, limit, Place, Words, Lines, Rules, placed}
+use Rattle.mc_text.specs.Judged.{or_later, first_in_line, first_in_section, is_last, words_of}
 use Rattle.mc_text.specs.Stops.{IsEnd, answered}
 
 abbrev pub IsFault : Option Judgement → Type 0

@@ -1,5 +1,7 @@
 -- The canonical text, part by part.
-use Rattle.std.proofs.Common.{◌≡◌, ℕ, ◌<◌, zero, suc, List, [], ◌∷◌, ◌++◌, length, map, take, get_or, codes, refl, sym, subst, ap, ◌∙◌, append_assoc, arith, Some, ◌+◌, slice_get}
+use Rattle.std.proofs.Common.{◌≡◌, ℕ, ◌<◌, zero, suc, List, [], ◌∷◌, ◌++◌, length, map, take}
+use Rattle.std.proofs.Common.{get_or, codes, refl, sym, subst, ap, ◌∙◌, append_assoc, arith, Some}
+use Rattle.std.proofs.Common.{◌+◌, slice_get}
 use Rattle.std.proofs.lemmas.List.{append-nil, map-append}
 use Rattle.std.proofs.lemmas.Grind.{flat_map-append}
 use Rattle.mc_write.specs.Text.{line_text, text_of, words_behind}

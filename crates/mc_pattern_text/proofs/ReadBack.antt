@@ -1,5 +1,7 @@
 -- The canonical text of a pattern is read without a fault, as that pattern.
-use Rattle.std.proofs.Common.{◌≡◌, ℕ, zero, suc, ◌+◌, ◌<◌, ◌≤◌, Bool, true, false, All, List, [], ◌∷◌, ◌++◌, length, map, take, codes, refl, sym, ap, ap₂, ◌∙◌, append_assoc, arith, Option, Some, None, IsTrue, if◌then◌else◌}
+use Rattle.std.proofs.Common.{◌≡◌, ℕ, zero, suc, ◌+◌, ◌<◌, ◌≤◌, Bool, true, false, All, List, []}
+use Rattle.std.proofs.Common.{◌∷◌, ◌++◌, length, map, take, codes, refl, sym, ap, ap₂, ◌∙◌}
+use Rattle.std.proofs.Common.{append_assoc, arith, Option, Some, None, IsTrue, if◌then◌else◌}
 use Rattle.std.specs.Fmt.{decimal}
 use Rattle.std.specs.List.{filter_map, flat_map, list_all, list_any}
 use Rattle.std.proofs.lemmas.Bool.{or_parts}
@@ -28,17 +30,21 @@ use Rattle.mc_text.specs.Judged.{Words, Lines, section_lines}
 use Rattle.mc_text.specs.Lists.{names_in, names_at}
 use Rattle.mc_text.proofs.Kept.{name_no_mark}
 use Rattle.mc_text.proofs.Clean.{IsRead, written_read}
-use Rattle.mc_text.proofs.Naming.{number-name_at, numbers-name_at, is_name-name_at, name_written, number_written}
+use Rattle.mc_text.proofs.Naming.{number-name_at, numbers-name_at, is_name-name_at, name_written}
+use Rattle.mc_text.proofs.Naming.{number_written}
 use Rattle.mc_text.proofs.Written.{is_written, is_written_line}
 use Rattle.mc_pattern_text.specs.Roles.{is_defining, is_input, is_output}
-use Rattle.mc_pattern_text.specs.Value.{is_first, is_second, words_under, spelled_m, spelled_command, spelled_commands, command_by, pattern_of}
+use Rattle.mc_pattern_text.specs.Value.{is_first, is_second, words_under, spelled_m}
+use Rattle.mc_pattern_text.specs.Value.{spelled_command, spelled_commands, command_by, pattern_of}
 use Rattle.mc_pattern_text.specs.Judge.{pattern_rules}
 use Rattle.mc_pattern_text.specs.Written.{IsNamed, AreNamed}
-use Rattle.mc_pattern_text.specs.Canonical.{marked, command_line, pattern_lines, pattern_text, behind_header}
+use Rattle.mc_pattern_text.specs.Canonical.{marked, command_line, pattern_lines, pattern_text}
+use Rattle.mc_pattern_text.specs.Canonical.{behind_header}
 use Rattle.mc_pattern_text.proofs.NamedCommands.{pattern_named}
 use Rattle.mc_pattern_text.proofs.NamedSignals.{names_written, signal_back}
 use Rattle.mc_pattern_text.proofs.CleanCommands.{IsAfter}
-use Rattle.mc_pattern_text.proofs.CleanLines.{names_unmarked, under-append, two_under, decimal_no_mark}
+use Rattle.mc_pattern_text.proofs.CleanLines.{names_unmarked, under-append, two_under}
+use Rattle.mc_pattern_text.proofs.CleanLines.{decimal_no_mark}
 use Rattle.mc_pattern_text.proofs.CleanText.{command_after, inputs_after, pattern_clean}
 use Rattle.mc_pattern_text.proofs.Parts.{and_both}
 

@@ -1,5 +1,7 @@
 -- The words of a line behind its marks, with one more word.
-use Rattle.std.proofs.Common.{◌≡◌, ℕ, ◌<◌, List, [], ◌∷◌, ◌++◌, Bool, true, false, Option, Some, None, drop, fold, refl, sym, ap, ◌∙◌, append_assoc, arith, ◌==◌, ne_eqb, if◌then◌else◌, is_some, ◌⊎◌, inl, inr}
+use Rattle.std.proofs.Common.{◌≡◌, ℕ, ◌<◌, List, [], ◌∷◌, ◌++◌, Bool, true, false, Option, Some}
+use Rattle.std.proofs.Common.{None, drop, fold, refl, sym, ap, ◌∙◌, append_assoc, arith, ◌==◌}
+use Rattle.std.proofs.Common.{ne_eqb, if◌then◌else◌, is_some, ◌⊎◌, inl, inr}
 use Rattle.std.specs.Option.{option_or}
 use Rattle.std.proofs.lemmas.List.{append-nil}
 use Rattle.mc_text.specs.declared.head.Head.{Head}

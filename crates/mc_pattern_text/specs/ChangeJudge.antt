@@ -1,14 +1,17 @@
 -- The rules of a change's section, behind a pattern.
-use Rattle.std.specs.Prelude.{ℕ, List, [], ◌∷◌, Bool, true, false, not, ◌&&◌, nat_eq, nat_lt, length, take, slice_get, if◌then◌else◌, Option, None, Some}
+use Rattle.std.specs.Prelude.{ℕ, List, [], ◌∷◌, Bool, true, false, not, ◌&&◌, nat_eq, nat_lt}
+use Rattle.std.specs.Prelude.{length, take, slice_get, if◌then◌else◌, Option, None, Some}
 use Rattle.mc_model.specs.Numbers.{is_member}
 use Rattle.mc_model.specs.Pattern.{Pattern, measured_order}
 use Rattle.mc_text.specs.declared.head.Head.{Head}
-use Rattle.mc_text.specs.declared.fault.Fault.TheVariants.{NotFixed, LineEnds, Surplus, NotMeasured, OtherRow}
+use Rattle.mc_text.specs.declared.fault.Fault.TheVariants.{NotFixed, LineEnds, Surplus, NotMeasured}
+use Rattle.mc_text.specs.declared.fault.Fault.TheVariants.{OtherRow}
 use Rattle.mc_text.specs.Heads.{head_of, is_end}
 use Rattle.mc_text.specs.Points.{point_of}
 use Rattle.mc_text.specs.Judged.{Judgement, Words, Rules}
 use Rattle.mc_text.specs.Rules.{broken, or_next, known_name, listed_name, number_in}
-use Rattle.mc_pattern_text.specs.ChangeRoles.{ChangeRole, record_word, subject, member, surplus, may_follow, role_of, is_row}
+use Rattle.mc_pattern_text.specs.ChangeRoles.{ChangeRole, record_word, subject, member, surplus}
+use Rattle.mc_pattern_text.specs.ChangeRoles.{may_follow, role_of, is_row}
 use Rattle.mc_pattern_text.specs.ChangeValue.{spelled_rows}
 
 -- whether a qubit is this one, where there is one

@@ -1,5 +1,6 @@
 -- What a reader keeps of a change's lines, and what a word and the end of a line do to it.
-use Rattle.std.specs.Prelude.{◌≡◌, ℕ, ◌≤◌, List, [], ◌∷◌, ◌++◌, true, false, nat_le, length, take, slice_get, if◌then◌else◌, Option, None, Some}
+use Rattle.std.specs.Prelude.{◌≡◌, ℕ, ◌≤◌, List, [], ◌∷◌, ◌++◌, true, false, nat_le, length, take}
+use Rattle.std.specs.Prelude.{slice_get, if◌then◌else◌, Option, None, Some}
 use Rattle.std.specs.List.{list_all}
 use Rattle.mc_model.specs.Names.{is_held, place_of}
 use Rattle.mc_model.specs.Numbers.{is_member}

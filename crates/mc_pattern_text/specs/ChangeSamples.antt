@@ -4,7 +4,9 @@ use Rattle.std.specs.Prelude.{◌≡◌, ℕ, List, [], ◌∷◌, false, codes,
 use Rattle.mc_lex.specs.Lines.{lines_of, end_of}
 use Rattle.mc_model.specs.Shift.{ChangeRow}
 use Rattle.mc_text.specs.declared.fault.Fault.{Fault}
-use Rattle.mc_text.specs.declared.fault.Fault.TheVariants.{StrayByte, NotFixed, LineEnds, Surplus, NotName, NotDefined, NotMeasured, ListedTwice, TextEnds, OtherRow}
+use Rattle.mc_text.specs.declared.fault.Fault.TheVariants.{StrayByte, NotFixed, LineEnds, Surplus}
+use Rattle.mc_text.specs.declared.fault.Fault.TheVariants.{NotName, NotDefined, NotMeasured}
+use Rattle.mc_text.specs.declared.fault.Fault.TheVariants.{ListedTwice, TextEnds, OtherRow}
 use Rattle.mc_text.specs.Judged.{Judgement, fault, Place, first_in_section, section_lines}
 use Rattle.mc_pattern_text.specs.ChangeJudge.{rules_by}
 use Rattle.mc_pattern_text.specs.ChangeValue.{rows_of}

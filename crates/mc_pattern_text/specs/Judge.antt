@@ -1,17 +1,24 @@
 -- The rules and limits of a pattern's section.
-use Rattle.std.specs.Prelude.{ℕ, List, [], ◌∷◌, ◌++◌, drop, Bool, true, false, not, ◌&&◌, ◌||◌, nat_le, length, if◌then◌else◌, Option, None, Some, suc}
+use Rattle.std.specs.Prelude.{ℕ, List, [], ◌∷◌, ◌++◌, drop, Bool, true, false, not, ◌&&◌, ◌||◌}
+use Rattle.std.specs.Prelude.{nat_le, length, if◌then◌else◌, Option, None, Some, suc}
 use Rattle.std.specs.List.{list_all}
 use Rattle.mc_model.specs.Limits.{most_commands}
 use Rattle.mc_model.specs.Names.{name_eq, is_held}
 use Rattle.mc_text.specs.declared.head.Head.{Head}
-use Rattle.mc_text.specs.declared.fault.Fault.TheVariants.{NotFixed, LineEnds, Surplus, Measured, SameOperand, NotMeasured, ListedTwice, OutputsLack}
+use Rattle.mc_text.specs.declared.fault.Fault.TheVariants.{NotFixed, LineEnds, Surplus, Measured}
+use Rattle.mc_text.specs.declared.fault.Fault.TheVariants.{SameOperand, NotMeasured, ListedTwice}
+use Rattle.mc_text.specs.declared.fault.Fault.TheVariants.{OutputsLack}
 use Rattle.mc_text.specs.declared.point.Point.{Point}
 use Rattle.mc_text.specs.Heads.{head_of}
 use Rattle.mc_text.specs.Points.{mark_of, point_of}
 use Rattle.mc_text.specs.Judged.{Judgement, Words, Lines, Rules}
-use Rattle.mc_text.specs.Rules.{broken, passed, or_next, new_name, known_name, listed_name, angle_word}
+use Rattle.mc_text.specs.Rules.{broken, passed, or_next, new_name, known_name, listed_name}
+use Rattle.mc_text.specs.Rules.{angle_word}
 use Rattle.mc_text.specs.Lists.{names_in, names_at, operand_at, operands_at}
-use Rattle.mc_pattern_text.specs.Roles.{Role, record_word, input, prepared, operand, second, angle, opening, first_member, member, output, surplus, may_follow, role_of, is_defining, is_command, has_operand, is_measuring, is_correcting, is_output}
+use Rattle.mc_pattern_text.specs.Roles.{Role, record_word, input, prepared, operand, second, angle}
+use Rattle.mc_pattern_text.specs.Roles.{opening, first_member, member, output, surplus, may_follow}
+use Rattle.mc_pattern_text.specs.Roles.{role_of, is_defining, is_command, has_operand, is_measuring}
+use Rattle.mc_pattern_text.specs.Roles.{is_correcting, is_output}
 use Rattle.mc_pattern_text.specs.Value.{is_first, is_second, words_under, spelled_commands}
 
 -- the names that earlier lines measure

@@ -1,5 +1,8 @@
 -- What a reader keeps of a pattern's lines, and what a word and the end of a line do to it.
-use Rattle.std.specs.Prelude.{◌≡◌, ℕ, ◌+◌, ◌*◌, ◌<◌, ◌≤◌, List, [], ◌∷◌, ◌++◌, Bool, true, false, not, ◌||◌, ◌==◌, nat_eq, map, length, if◌then◌else◌, Option, None, Some, option_to_list}
+use Rattle.std.specs.Prelude.{◌≡◌, ℕ, ◌+◌, ◌*◌, ◌<◌, ◌≤◌, List, [], ◌∷◌, ◌++◌, Bool, true}
+use Rattle.std.specs.Prelude.{false}
+use Rattle.std.specs.Prelude.{not, ◌||◌, ◌==◌, nat_eq, map, length, if◌then◌else◌, Option, None}
+use Rattle.std.specs.Prelude.{Some, option_to_list}
 use Rattle.std.specs.List.{list_all, IsDistinct}
 use Rattle.mc_angle.specs.Angle.{angle_of}
 use Rattle.mc_model.specs.Limits.{most_commands, most_qubits}
@@ -21,9 +24,13 @@ use Rattle.mc_pattern.specs.Commands.{plain_command}
 use Rattle.mc_pattern.specs.Patterns.{IsBuilt, begun}
 use Rattle.mc_pattern_text.specs.declared.reader.Reader.{Reader}
 use Rattle.mc_pattern_text.specs.declared.reader.Operands.{Operands}
-use Rattle.mc_pattern_text.specs.Roles.{may_follow, role_of, role_behind, is_defining, is_input, is_preparing, is_entangling, is_measuring, is_correcting, is_command, has_operand, is_output}
-use Rattle.mc_pattern_text.specs.Value.{is_first, is_second, word_under, spelled_commands, command_by}
-use Rattle.mc_pattern_text.specs.Judge.{Known, measured_in, first_signal, second_signal, is_in_second, is_settled, judge_by, lacks_by}
+use Rattle.mc_pattern_text.specs.Roles.{may_follow, role_of, role_behind, is_defining, is_input}
+use Rattle.mc_pattern_text.specs.Roles.{is_preparing, is_entangling, is_measuring, is_correcting}
+use Rattle.mc_pattern_text.specs.Roles.{is_command, has_operand, is_output}
+use Rattle.mc_pattern_text.specs.Value.{is_first, is_second, word_under, spelled_commands}
+use Rattle.mc_pattern_text.specs.Value.{command_by}
+use Rattle.mc_pattern_text.specs.Judge.{Known, measured_in, first_signal, second_signal}
+use Rattle.mc_pattern_text.specs.Judge.{is_in_second, is_settled, judge_by, lacks_by}
 
 -- the names of a list are held, and marks stand at their numbers
 pub record AreMarked (names list : List (List ℕ)) (marks : Bits) : Type 0 where

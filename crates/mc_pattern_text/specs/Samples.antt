@@ -1,11 +1,16 @@
 -- The definitions, computed on small texts: each fault that a pattern can meet, with its place.
-use Rattle.std.specs.Prelude.{◌≡◌, ℕ, List, [], ◌∷◌, codes, replicate, false, Option, None, Some, refl}
+use Rattle.std.specs.Prelude.{◌≡◌, ℕ, List, [], ◌∷◌, codes, replicate, false, Option, None, Some}
+use Rattle.std.specs.Prelude.{refl}
 use Rattle.mc_lex.specs.Lines.{lines_of, end_of}
 use Rattle.mc_model.specs.Signals.{Signal, no_signal}
 use Rattle.mc_model.specs.Pattern.{Pattern, Prep, Ent, Meas, FixX, FixZ}
 use Rattle.mc_text.specs.declared.head.Head.TheVariants as head
 use Rattle.mc_text.specs.declared.fault.Fault.{Fault}
-use Rattle.mc_text.specs.declared.fault.Fault.TheVariants.{StrayByte, NotFixed, LineEnds, Surplus, NotName, NotAngle, DefinedTwice, NotDefined, Measured, SameOperand, NotMeasured, ListedTwice, OutputsLack, TextEnds}
+use Rattle.mc_text.specs.declared.fault.Fault.TheVariants.{StrayByte, NotFixed, LineEnds, Surplus}
+use Rattle.mc_text.specs.declared.fault.Fault.TheVariants.{NotName, NotAngle, DefinedTwice}
+use Rattle.mc_text.specs.declared.fault.Fault.TheVariants.{NotDefined, Measured, SameOperand}
+use Rattle.mc_text.specs.declared.fault.Fault.TheVariants.{NotMeasured, ListedTwice, OutputsLack}
+use Rattle.mc_text.specs.declared.fault.Fault.TheVariants.{TextEnds}
 use Rattle.mc_text.specs.Judged.{Judgement, fault, limit, Place, first_in_section, section_lines}
 use Rattle.mc_pattern_text.specs.Value.{pattern_of}
 use Rattle.mc_pattern_text.specs.Judge.{pattern_rules, next_record}

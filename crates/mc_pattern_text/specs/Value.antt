@@ -1,5 +1,6 @@
 -- The pattern that lines spell, by filters and maps over them.
-use Rattle.std.specs.Prelude.{ℕ, List, [], ◌∷◌, ◌++◌, map, length, filter_map, Bool, true, false, is_some, if◌then◌else◌, Option, None, Some}
+use Rattle.std.specs.Prelude.{ℕ, List, [], ◌∷◌, ◌++◌, map, length, filter_map, Bool, true, false}
+use Rattle.std.specs.Prelude.{is_some, if◌then◌else◌, Option, None, Some}
 use Rattle.std.specs.Option.{option_or}
 use Rattle.mc_angle.specs.Angle.{angle_of}
 use Rattle.mc_model.specs.Numbers.{numbers_where, is_member}

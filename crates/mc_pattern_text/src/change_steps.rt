@@ -1,6 +1,7 @@
 //! What the words and the ends of the lines of a change do.
 
-ghost use Rattle.std.specs.Prelude.{◌≡◌, ℕ, ◌<◌, ◌≤◌, List, Option, OnOk, IfOk, IfErr, None, Some, [], take, slice_get, slice_index_or, length};
+ghost use Rattle.std.specs.Prelude.{◌≡◌, ℕ, ◌<◌, ◌≤◌, List, Option, OnOk, IfOk, IfErr, None, Some};
+ghost use Rattle.std.specs.Prelude.{[], take, slice_get, slice_index_or, length};
 ghost use Rattle.mc_model.specs.Names.{place_of};
 ghost use Rattle.mc_text.specs.Rules.{known_name};
 ghost use Rattle.mc_text.specs.Stops.{IsStop};

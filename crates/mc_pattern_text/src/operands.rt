@@ -1,6 +1,7 @@
 //! What the words of a command do.
 
-ghost use Rattle.std.specs.Prelude.{◌≡◌, ℕ, ◌*◌, ◌<◌, List, Option, [], ◌∷◌, false, true, OnOk, IfOk, IfErr, IsTrue, Some, None};
+ghost use Rattle.std.specs.Prelude.{◌≡◌, ℕ, ◌*◌, ◌<◌, List, Option, [], ◌∷◌, false, true, OnOk};
+ghost use Rattle.std.specs.Prelude.{IfOk, IfErr, IsTrue, Some, None};
 ghost use Rattle.std.specs.Option.{option_map};
 ghost use Rattle.mc_angle.specs.Angle.{angle_of};
 ghost use Rattle.mc_model.specs.Bits.{bits_of};
@@ -12,8 +13,11 @@ ghost use Rattle.mc_text.specs.Rules.{angle_word};
 ghost use Rattle.mc_text.specs.Stops.{IsStop};
 ghost use Rattle.mc_text.specs.declared.head.Head.{Head as PlainHead};
 ghost use Rattle.mc_pattern_text.specs.Roles.{has_operand, role_of, role_behind};
-ghost use Rattle.mc_pattern_text.specs.Judge.{judge_by, still_name, second_name, member_name, opening_word, first_member_word};
-ghost use Rattle.mc_pattern_text.specs.Kept.{AreMarked, IsOperand, IsSecond, Joins, Stands, Takes, TakesBehind, set_behind, known_by, command_with, AreTyped};
+ghost use Rattle.mc_pattern_text.specs.Judge.{judge_by, still_name, second_name, member_name};
+ghost use Rattle.mc_pattern_text.specs.Judge.{opening_word, first_member_word};
+ghost use Rattle.mc_pattern_text.specs.Kept.{AreMarked, IsOperand, IsSecond, Joins, Stands, Takes};
+ghost use Rattle.mc_pattern_text.specs.Kept.{TakesBehind, set_behind, known_by, command_with};
+ghost use Rattle.mc_pattern_text.specs.Kept.{AreTyped};
 
 use crate::reader::Operands;
 use mc_angle::Angle;

@@ -1,6 +1,7 @@
 //! Printing a pattern.
 
-ghost use Rattle.std.specs.Prelude.{◌≡◌, ◌++◌, ◌∷◌, [], ◌<◌, ◌≤◌, All, IfOk, OnOk, length, map, codes, take};
+ghost use Rattle.std.specs.Prelude.{◌≡◌, ◌++◌, ◌∷◌, [], ◌<◌, ◌≤◌, All, IfOk, OnOk, length, map};
+ghost use Rattle.std.specs.Prelude.{codes, take};
 ghost use Rattle.mc_model.specs.Pattern.{Prep, Ent, Meas, FixX, FixZ};
 ghost use Rattle.mc_write.specs.Text.{line_text, text_of, words_behind};
 ghost use Rattle.mc_write.specs.Named.{name_at};
@@ -90,7 +91,8 @@ fn print_measurement<const H: usize>(
     requires qubit { q < length names.now }
     requires first { All (λ k. k < length names.now) s.now.members }
     requires second { All (λ k. k < length names.now) t.now.members }
-    ensures { OnOk result (text.new.items ≡ text.old.items ++ line_text (command_line names.now (Meas q angle.now s.now t.now))) }
+    ensures { OnOk result (text.new.items ≡
+        text.old.items ++ line_text (command_line names.now (Meas q angle.now s.now t.now))) }
 {
     start_line(text, b"m")?;
     add_name(text, names, q)?;
@@ -145,7 +147,9 @@ fn print_commands<const H: usize>(
     commands: &[Command<H>],
 ) -> Result<(), Memory>
     requires { AreNamed (length names.now) (map plain_command commands.now) }
-    ensures { OnOk result (text.new.items ≡ text.old.items ++ text_of (map (command_line names.now) (map plain_command commands.now))) }
+    ensures { OnOk result (text.new.items ≡
+        text.old.items
+        ++ text_of (map (command_line names.now) (map plain_command commands.now))) }
 {
     'commands: for command in commands {
         print_command(text, names, command)?;

@@ -1,6 +1,8 @@
 //! What the words and the ends of the lines of a pattern do.
 
-ghost use Rattle.std.specs.Prelude.{◌≡◌, ◌↔◌, ℕ, ◌<◌, ◌≤◌, List, Option, true, false, ◌∷◌, [], ◌++◌, ◌||◌, length, map, option_to_list, OnOk, OnErr, IfErr, IsTrue, Err, Some, None, nat_eq};
+ghost use Rattle.std.specs.Prelude.{◌≡◌, ◌↔◌, ℕ, ◌<◌, ◌≤◌, List, Option, true, false, ◌∷◌, []};
+ghost use Rattle.std.specs.Prelude.{◌++◌, ◌||◌, length, map, option_to_list, OnOk, OnErr, IfErr};
+ghost use Rattle.std.specs.Prelude.{IsTrue, Err, Some, None, nat_eq};
 ghost use Rattle.std.specs.List.{list_any, list_all};
 ghost use Rattle.std.specs.Option.{option_map};
 ghost use Rattle.mc_pattern.specs.Commands.{plain_command};
@@ -9,9 +11,12 @@ ghost use Rattle.mc_model.specs.Numbers.{is_member};
 ghost use Rattle.mc_model.specs.Names.{place_of};
 ghost use Rattle.mc_text.specs.Rules.{new_name, AreNumbers};
 ghost use Rattle.mc_text.specs.Stops.{IsStop};
-ghost use Rattle.mc_pattern_text.specs.Roles.{role_of, may_follow, is_command as command_word, is_measuring};
-ghost use Rattle.mc_pattern_text.specs.Judge.{judge_by, lacks_by, next_record, output_name, is_settled};
-ghost use Rattle.mc_pattern_text.specs.Kept.{AreMarked, Stands, Lists, Moves, Ends, known_by, marks_with};
+ghost use Rattle.mc_pattern_text.specs.Roles.{role_of, may_follow, is_command as command_word};
+ghost use Rattle.mc_pattern_text.specs.Roles.{is_measuring};
+ghost use Rattle.mc_pattern_text.specs.Judge.{judge_by, lacks_by, next_record, output_name};
+ghost use Rattle.mc_pattern_text.specs.Judge.{is_settled};
+ghost use Rattle.mc_pattern_text.specs.Kept.{AreMarked, Stands, Lists, Moves, Ends, known_by};
+ghost use Rattle.mc_pattern_text.specs.Kept.{marks_with};
 
 use crate::operands::{is_marked, still, take_word};
 use crate::reader::{Operands, Reader};

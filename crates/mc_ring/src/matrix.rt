@@ -1,6 +1,7 @@
 //! Matrices over a ring.
 
-ghost use Rattle.std.specs.Prelude.{◌≡◌, ◌<◌, ◌≤◌, ◌*◌, ℕ, ◌⊎◌, ◌≢◌, IfOk, Err, MatchOption, map};
+ghost use Rattle.std.specs.Prelude.{◌≡◌, ◌<◌, ◌≤◌, ◌*◌, ℕ, ◌⊎◌, ◌≢◌, IfOk, Err, MatchOption};
+ghost use Rattle.std.specs.Prelude.{map};
 ghost use Rattle.std.specs.Prelude.{replicate};
 ghost use Rattle.mc_ring.specs.Matrices.{at, products, sum_below, IsProduct, LeavesAt, StaysBelow};
 ghost use Rattle.mc_ring.specs.Matrices.{LeavesRange, StaysInRange};

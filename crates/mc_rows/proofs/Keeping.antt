@@ -1,6 +1,8 @@
 -- A word and a line of a row with nothing against them are kept.
-use Rattle.std.proofs.Common.{◌≡◌, ℕ, suc, ◌+◌, List, [], ◌∷◌, ◌++◌, Bool, true, false, ◌&&◌, length, refl}
-use Rattle.std.proofs.Common.{sym, ap, ◌∙◌, arith, ◌==◌, if◌then◌else◌, Option, Some, None, codes, ◌⊎◌, inl, inr}
+use Rattle.std.proofs.Common.{◌≡◌, ℕ, suc, ◌+◌, List, [], ◌∷◌, ◌++◌, Bool, true, false, ◌&&◌}
+use Rattle.std.proofs.Common.{length, refl}
+use Rattle.std.proofs.Common.{sym, ap, ◌∙◌, arith, ◌==◌, if◌then◌else◌, Option, Some, None, codes}
+use Rattle.std.proofs.Common.{◌⊎◌, inl, inr}
 use Rattle.std.specs.List.{list_all, filter_map}
 use Rattle.std.proofs.lemmas.Bool.{eqb-true}
 use Rattle.std.proofs.lemmas.List.{append-nil}
@@ -31,7 +33,8 @@ use Rattle.mc_rows.specs.Rows.{row_in, rows_in, spelled_row, row_of_none}
 use Rattle.mc_rows.specs.Judge.{Kind, head_word, name_word, member_word, judge_by, lacks_by}
 use Rattle.mc_rows.specs.Judge.{row_rules}
 use Rattle.mc_rows.specs.Kept.{AreMembers, IsKept, Passes, has_name}
-use Rattle.mc_rows.proofs.Words.{role_here, words_in-more, row_in-more, number_by-more, name_by-more}
+use Rattle.mc_rows.proofs.Words.{role_here, words_in-more, row_in-more, number_by-more}
+use Rattle.mc_rows.proofs.Words.{name_by-more}
 use Rattle.mc_rows.proofs.Sets.{no_members}
 
 -- a role is one of two by a test

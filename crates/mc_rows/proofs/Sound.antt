@@ -1,6 +1,8 @@
 -- The lines of sound rows are read without a fault, as these rows.
-use Rattle.std.proofs.Common.{◌≡◌, ℕ, zero, suc, ◌+◌, ◌<◌, ◌≤◌, All, List, [], ◌∷◌, ◌++◌, Bool, true}
-use Rattle.std.proofs.Common.{false, ◌&&◌, nat_le, drop, length, map, codes, refl, sym, ap, ◌∙◌, arith, nat_eq}
+use Rattle.std.proofs.Common.{◌≡◌, ℕ, zero, suc, ◌+◌, ◌<◌, ◌≤◌, All, List, [], ◌∷◌, ◌++◌, Bool}
+use Rattle.std.proofs.Common.{true}
+use Rattle.std.proofs.Common.{false, ◌&&◌, nat_le, drop, length, map, codes, refl, sym, ap, ◌∙◌}
+use Rattle.std.proofs.Common.{arith, nat_eq}
 use Rattle.std.proofs.Common.{append_assoc, length-append, eq-eqb, Option, Some, None}
 use Rattle.std.proofs.Common.{if◌then◌else◌}
 use Rattle.std.specs.Fmt.{decimal}
@@ -33,7 +35,8 @@ use Rattle.mc_rows.specs.declared.row.Shape.TheVariants.{Set, NamedSet, RankedSe
 use Rattle.mc_rows.specs.declared.row.Role.{Role}
 use Rattle.mc_rows.specs.declared.row.Role.TheVariants as role
 use Rattle.mc_rows.specs.declared.row.Row.{Row}
-use Rattle.mc_rows.specs.Rows.{role_behind, role_at, words_in, words_from, members_in, is_number, is_listed}
+use Rattle.mc_rows.specs.Rows.{role_behind, role_at, words_in, words_from, members_in, is_number}
+use Rattle.mc_rows.specs.Rows.{is_listed}
 use Rattle.mc_rows.specs.Rows.{number_by, set_by, has_one}
 use Rattle.mc_rows.specs.Rows.{row_in, rows_in, spelled_row}
 use Rattle.mc_rows.specs.Judge.{Kind, judge_by, lacks_by, row_rules, name_word, member_word}

@@ -1,5 +1,6 @@
 -- The numbers of rows are those of names.
-use Rattle.std.proofs.Common.{◌≡◌, ℕ, zero, suc, ◌<◌, All, List, [], ◌∷◌, Bool, true, false, ◌&&◌, length}
+use Rattle.std.proofs.Common.{◌≡◌, ℕ, zero, suc, ◌<◌, All, List, [], ◌∷◌, Bool, true, false, ◌&&◌}
+use Rattle.std.proofs.Common.{length}
 use Rattle.std.proofs.Common.{refl, sym, arith, nat_lt, Option, Some, None, slice_get, ◌∙◌, eq-eqb}
 use Rattle.std.proofs.Common.{if◌then◌else◌, ◌||◌, nat_eq, map, fold}
 use Rattle.std.specs.List.{AllByRecursion}

@@ -1,5 +1,6 @@
 -- The rules of a section of rows.
-use Rattle.std.specs.Prelude.{ℕ, List, [], ◌∷◌, Bool, true, not, ◌&&◌, codes, if◌then◌else◌, Option, None}
+use Rattle.std.specs.Prelude.{ℕ, List, [], ◌∷◌, Bool, true, not, ◌&&◌, codes, if◌then◌else◌, Option}
+use Rattle.std.specs.Prelude.{None}
 use Rattle.mc_model.specs.Names.{Name}
 use Rattle.mc_text.specs.declared.head.Head.{Head}
 use Rattle.mc_text.specs.declared.fault.Fault.TheVariants.{NotFixed, LineEnds, Surplus, ListedTwice}

@@ -1,12 +1,14 @@
 //! What the lines of rows are, on the contract of a function that does nothing.
 
-ghost use Rattle.std.specs.Prelude.{◌≡◌, ◌<◌, ◌∷◌, [], ℕ, List, None, Some, true, drop, length, slice_get};
+ghost use Rattle.std.specs.Prelude.{◌≡◌, ◌<◌, ◌∷◌, [], ℕ, List, None, Some, true, drop, length};
+ghost use Rattle.std.specs.Prelude.{slice_get};
 ghost use Rattle.std.specs.List.{list_all};
 ghost use Rattle.mc_lex.specs.Lines.{lines_of};
 ghost use Rattle.mc_model.specs.Names.{Name, AreNames};
 ghost use Rattle.mc_write.specs.Text.{text_of};
 ghost use Rattle.mc_text.specs.declared.head.Head.TheVariants.{End};
-ghost use Rattle.mc_text.specs.Judged.{Words, Lines, Place, first_in_section, section_lines, behind_section};
+ghost use Rattle.mc_text.specs.Judged.{Words, Lines, Place, first_in_section, section_lines};
+ghost use Rattle.mc_text.specs.Judged.{behind_section};
 ghost use Rattle.mc_rows.specs.declared.row.Shape.TheVariants.{Bare};
 ghost use Rattle.mc_rows.specs.declared.row.Row.{Row as PlainRow};
 ghost use Rattle.mc_rows.specs.Rows.{Shapes, rows_in};

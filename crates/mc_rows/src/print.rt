@@ -1,12 +1,14 @@
 //! Printing rows.
 
-ghost use Rattle.std.specs.Prelude.{◌≡◌, ◌++◌, ◌∷◌, [], ◌<◌, All, OnOk, codes, length, map, true, if◌then◌else◌};
+ghost use Rattle.std.specs.Prelude.{◌≡◌, ◌++◌, ◌∷◌, [], ◌<◌, All, OnOk, codes, length, map, true};
+ghost use Rattle.std.specs.Prelude.{if◌then◌else◌};
 ghost use Rattle.std.specs.Fmt.{decimal};
 ghost use Rattle.mc_text.specs.Heads.{spelling};
 ghost use Rattle.mc_write.specs.Text.{line_text, words_behind};
 ghost use Rattle.mc_write.specs.Named.{name_at};
 ghost use Rattle.mc_rows.specs.Kept.{has_name};
-ghost use Rattle.mc_rows.specs.Written.{set_words, words_of_row, due_words, has_set, row_with, IsNamed};
+ghost use Rattle.mc_rows.specs.Written.{set_words, words_of_row, due_words, has_set, row_with};
+ghost use Rattle.mc_rows.specs.Written.{IsNamed};
 
 use crate::row::Shape;
 use mc_model::Memory;

@@ -1,6 +1,7 @@
 //! What the words of a row do.
 
-ghost use Rattle.std.specs.Prelude.{◌≡◌, ◌++◌, ◌∷◌, [], List, ℕ, ◌&&◌, ◌⊎◌, true, None, OnOk, IfErr};
+ghost use Rattle.std.specs.Prelude.{◌≡◌, ◌++◌, ◌∷◌, [], List, ℕ, ◌&&◌, ◌⊎◌, true, None, OnOk};
+ghost use Rattle.std.specs.Prelude.{IfErr};
 ghost use Rattle.mc_model.specs.Numbers.{is_member};
 ghost use Rattle.mc_angle.specs.Number.{number_of};
 ghost use Rattle.mc_text.specs.Heads.{head_of};

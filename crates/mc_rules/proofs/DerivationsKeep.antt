@@ -1,5 +1,7 @@
 -- Derivations and the standard form keep a pattern valid, and what it does.
-use Rattle.std.proofs.Common.{◌≡◌, ℕ, ◌+◌, Bool, not, ◌||◌, List, [], ◌∷◌, ◌++◌, refl, sym, ◌∙◌, ap, subst, subst₂, arith}
+use Rattle.std.proofs.Common.{◌≡◌, ℕ, ◌+◌, Bool, not, ◌||◌, List, [], ◌∷◌, ◌++◌, refl, sym, ◌∙◌}
+use Rattle.std.proofs.Common.{ap}
+use Rattle.std.proofs.Common.{subst, subst₂, arith}
 use Rattle.std.specs.Prelude.{length}
 use mathlib.Core.Path.{fun_ext}
 use mathlib.Core.Logic.{inl, inr}
@@ -11,7 +13,11 @@ use Rattle.mc_model.specs.Amplitude.{halvings}
 use Rattle.mc_model.specs.Alike.{AlikeCommands}
 use Rattle.mc_model.specs.Valid.{IsValid, IsValidPattern, measured, prepared}
 use Rattle.mc_model.specs.StandardForm.{standard_commands, standard_form}
-use Rattle.mc_model.specs.Derivation.{x_first, x_second, z_first, z_second, x_measured, z_measured, swapped, x_joined, z_joined, edges_exchanged, same_cancelled, turned_cancelled, x_behind_z, z_behind_x, turned, x_dropped, z_dropped, Rule, Rewrites, Step, Use, Derives, Rank, rank, IsLower, no_use, one_use}
+use Rattle.mc_model.specs.Derivation.{x_first, x_second, z_first, z_second, x_measured, z_measured}
+use Rattle.mc_model.specs.Derivation.{swapped, x_joined, z_joined, edges_exchanged, same_cancelled}
+use Rattle.mc_model.specs.Derivation.{turned_cancelled, x_behind_z, z_behind_x, turned, x_dropped}
+use Rattle.mc_model.specs.Derivation.{z_dropped, Rule, Rewrites, Step, Use, Derives, Rank, rank}
+use Rattle.mc_model.specs.Derivation.{IsLower, no_use, one_use}
 use Rattle.mc_model.proofs.ValidLemmas.{measured-append, prepared-append}
 use Rattle.mc_model.proofs.Scales.{halvings-append}
 use Rattle.mc_model.proofs.AlikeLemmas.{alike_itself, alike_on}

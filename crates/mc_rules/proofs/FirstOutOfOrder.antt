@@ -1,6 +1,8 @@
 -- The first command out of order moves one place to the front: the rule that applies, and what it
 -- keeps.
-use Rattle.std.proofs.Common.{◌≡◌, ℕ, suc, ◌+◌, ◌<◌, ◌≤◌, Bool, true, false, ◌||◌, ◌⊎◌, List, [], ◌∷◌, ◌++◌, map, length, refl, sym, ◌∙◌, ap, ap₂, arith}
+use Rattle.std.proofs.Common.{◌≡◌, ℕ, suc, ◌+◌, ◌<◌, ◌≤◌, Bool, true, false, ◌||◌, ◌⊎◌, List}
+use Rattle.std.proofs.Common.{[]}
+use Rattle.std.proofs.Common.{◌∷◌, ◌++◌, map, length, refl, sym, ◌∙◌, ap, ap₂, arith}
 use Rattle.std.specs.Prelude.{nat_lt, ⊤}
 use Rattle.std.proofs.lemmas.Bool.{cases_eq, eq-eqb, le-ltb, false≢true}
 use mathlib.Core.Path.{subst, subst₂}
@@ -11,7 +13,12 @@ use Rattle.mc_model.specs.Signals.{Signal, signal_sum}
 use Rattle.mc_model.specs.Pattern.{Command, Prep, Ent, Meas, FixX, FixZ}
 use Rattle.mc_model.specs.Alike.{AlikeCommands, Disjoint}
 use Rattle.mc_model.specs.Valid.{prepared, measured, FitsBehind, IsValid}
-use Rattle.mc_model.specs.Derivation.{Rule, XE, ZE, XM, ZM, Swap, Join, EE, Cancel, XZ, Turn, DropEmpty, Rewrites, UsesNot, x_first, x_second, z_first, z_second, x_measured, z_measured, swapped, x_joined, z_joined, edges_exchanged, same_cancelled, turned_cancelled, x_behind_z, z_behind_x, turned, x_dropped, z_dropped, Step, part, one_if, has_later, out_of_order, first_out, rank, IsLower}
+use Rattle.mc_model.specs.Derivation.{Rule, XE, ZE, XM, ZM, Swap, Join, EE, Cancel, XZ, Turn}
+use Rattle.mc_model.specs.Derivation.{DropEmpty, Rewrites, UsesNot, x_first, x_second, z_first}
+use Rattle.mc_model.specs.Derivation.{z_second, x_measured, z_measured, swapped, x_joined, z_joined}
+use Rattle.mc_model.specs.Derivation.{edges_exchanged, same_cancelled, turned_cancelled, x_behind_z}
+use Rattle.mc_model.specs.Derivation.{z_behind_x, turned, x_dropped, z_dropped, Step, part, one_if}
+use Rattle.mc_model.specs.Derivation.{has_later, out_of_order, first_out, rank, IsLower}
 use Rattle.mc_rules.specs.Improves.{Improves, Improvement, Descends}
 use Rattle.mc_rules.specs.Passing.{MayPass}
 use Rattle.mc_rules.specs.Settled.{OperandsDiffer}
@@ -22,7 +29,8 @@ use Rattle.mc_model.proofs.ValidInPlace.{valid_in_place, InPlace, Final}
 use Rattle.mc_rules.proofs.RulesAreAlike.{AllDiffer, rewrites_alike}
 use Rattle.mc_rules.proofs.RulesKeepForm.{Allowed, InTurn, rewrites_same}
 use Rattle.mc_rules.proofs.RulesKeepValidity.{fit_from_valid, fit_split, AllFit, rewrites_valid}
-use Rattle.mc_rules.proofs.RankFalls.{has-append, order-append, old_parts, new_parts, Covered, Moved, parts_fall}
+use Rattle.mc_rules.proofs.RankFalls.{has-append, order-append, old_parts, new_parts, Covered}
+use Rattle.mc_rules.proofs.RankFalls.{Moved, parts_fall}
 
 pub differ : (inputs : ℕ) (b : List Command) (c : Command) → FitsBehind inputs b c →
     OperandsDiffer c

@@ -1,12 +1,16 @@
 -- In a list whose parts are in order: exchanges, turns, and what makes the list shorter.
-use Rattle.std.proofs.Common.{◌≡◌, ℕ, suc, ◌+◌, ◌<◌, ◌≤◌, Bool, true, false, ◌&&◌, ◌||◌, List, [], ◌∷◌, ◌++◌, map, length, refl, sym, ◌∙◌, ap, ap₂, arith, ◌⊎◌}
+use Rattle.std.proofs.Common.{◌≡◌, ℕ, suc, ◌+◌, ◌<◌, ◌≤◌, Bool, true, false, ◌&&◌, ◌||◌, List, []}
+use Rattle.std.proofs.Common.{◌∷◌, ◌++◌, map, length, refl, sym, ◌∙◌, ap, ap₂, arith, ◌⊎◌}
 use Rattle.std.specs.Prelude.{nat_eq, nat_lt}
 use Rattle.std.proofs.lemmas.Bool.{cases_eq, ltb-true, or_cases, and_parts, false≢true}
 use mathlib.Core.Logic.{inl, inr}
 use Rattle.mc_model.specs.Signals.{Signal, signal_sum}
 use Rattle.mc_model.specs.Pattern.{Command, Prep, Ent, Meas, FixX, FixZ}
 use Rattle.mc_model.specs.Valid.{IsValid}
-use Rattle.mc_model.specs.Derivation.{Rule, Swap, EE, XZ, Turn, Rewrites, swapped, edges_exchanged, z_behind_x, turned, part, has_later, out_of_order, first_out, wrong_pairs, turned_edges, rank, IsLower, is_wrong, pair_before}
+use Rattle.mc_model.specs.Derivation.{Rule, Swap, EE, XZ, Turn, Rewrites, swapped, edges_exchanged}
+use Rattle.mc_model.specs.Derivation.{z_behind_x, turned, part, has_later, out_of_order, first_out}
+use Rattle.mc_model.specs.Derivation.{wrong_pairs, turned_edges, rank, IsLower, is_wrong}
+use Rattle.mc_model.specs.Derivation.{pair_before}
 use Rattle.mc_rules.specs.Improves.{Descends, Improves, Improvement}
 use Rattle.mc_rules.proofs.RulesKeepForm.{InTurn}
 use Rattle.mc_rules.proofs.RankFalls.{Covered, shorter_in_order, first_none}

@@ -1,59 +1,23 @@
 -- Uses of rules at a place of a valid list improve it.
-use Rattle.std.proofs.Common.{◌≡◌, ◌⊎◌, ℕ, suc, ◌<◌, true, List, [], ◌∷◌, ◌++◌, length, sym, subst, arith}
+use Rattle.std.proofs.Common.{◌≡◌, ◌⊎◌, ℕ, suc, ◌<◌, true, List, [], ◌∷◌, ◌++◌, length, sym, subst}
+use Rattle.std.proofs.Common.{arith}
 use Rattle.std.proofs.lemmas.Bool.{ltb-true}
 use mathlib.Core.Logic.{inl, inr}
 use Rattle.mc_model.specs.Signals.{no_signal}
 use Rattle.mc_model.specs.Pattern.{Command, FixX, FixZ}
 use Rattle.mc_model.specs.Valid.{IsValid}
-use Rattle.mc_model.specs.Derivation.{
-  Rule,
-  XE,
-  ZE,
-  XM,
-  ZM,
-  Swap,
-  Join,
-  EE,
-  Cancel,
-  XZ,
-  Turn,
-  DropEmpty,
-  Rewrites,
-  x_first,
-  x_second,
-  z_first,
-  z_second,
-  x_measured,
-  z_measured,
-  swapped,
-  x_joined,
-  z_joined,
-  edges_exchanged,
-  same_cancelled,
-  turned_cancelled,
-  x_behind_z,
-  z_behind_x,
-  turned,
-  x_dropped,
-  z_dropped,
-  part,
-  is_turned,
-}
+use Rattle.mc_model.specs.Derivation.{Rule, XE, ZE, XM, ZM, Swap, Join, EE, Cancel, XZ, Turn}
+use Rattle.mc_model.specs.Derivation.{DropEmpty, Rewrites, x_first, x_second, z_first, z_second}
+use Rattle.mc_model.specs.Derivation.{x_measured, z_measured, swapped, x_joined, z_joined}
+use Rattle.mc_model.specs.Derivation.{edges_exchanged, same_cancelled, turned_cancelled, x_behind_z}
+use Rattle.mc_model.specs.Derivation.{z_behind_x, turned, x_dropped, z_dropped, part, is_turned}
 use Rattle.mc_rules.specs.Improves.{Improvement}
 use Rattle.mc_rules.specs.Nearer.{PassingImproves, SettlingTwoImproves, SettlingOneImproves}
 use Rattle.mc_rules.specs.Settled.{InOrder}
 use Rattle.mc_rules.proofs.FirstOutOfOrder.{may_pass, moved, local_fit}
-use Rattle.mc_rules.proofs.ImprovedInOrder.{
-  Shortens,
-  join_x_shortens,
-  join_z_shortens,
-  cancel_shortens,
-  drop_x_shortens,
-  drop_z_shortens,
-  shortened,
-  exchanged,
-  turned_round,
-}
+use Rattle.mc_rules.proofs.ImprovedInOrder.{Shortens, join_x_shortens, join_z_shortens}
+use Rattle.mc_rules.proofs.ImprovedInOrder.{cancel_shortens, drop_x_shortens, drop_z_shortens}
+use Rattle.mc_rules.proofs.ImprovedInOrder.{shortened, exchanged, turned_round}
 
 pub passing_improves : PassingImproves
 passing_improves inputs rule before c d new behind v order less rewrites =

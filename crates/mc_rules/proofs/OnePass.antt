@@ -1,54 +1,28 @@
 -- The pass with two running signals for each qubit comes to the parts of the standard form, signal by
 -- signal.
-use Rattle.std.proofs.Common.{◌≡◌, ℕ, zero, suc, ◌+◌, true, false, List, [], ◌∷◌, ◌++◌, refl, sym, ◌∙◌, ap₂, arith}
+use Rattle.std.proofs.Common.{◌≡◌, ℕ, zero, suc, ◌+◌, true, false, List, [], ◌∷◌, ◌++◌, refl, sym}
+use Rattle.std.proofs.Common.{◌∙◌, ap₂, arith}
 use Rattle.std.proofs.lemmas.Bool.{cases_Bool}
 use mathlib.Core.Logic.{inl, inr}
 use Rattle.mc_model.specs.Bits.{Bits, parity}
 use Rattle.mc_model.specs.Signals.{Signal, no_signal, signal_sum, value, IsRising, Signals}
 use Rattle.mc_model.specs.Pattern.{Command, Prep, Ent, Meas, FixX, FixZ}
 use Rattle.mc_model.specs.Valid.{prepared, measured}
-use Rattle.mc_model.specs.StandardForm.{
-  is_edge,
-  fix_x,
-  fix_z,
-  corrections_below,
-  preparations_of,
-  first_sum,
-  second_sum,
-  standard_commands,
-}
+use Rattle.mc_model.specs.StandardForm.{is_edge, fix_x, fix_z, corrections_below, preparations_of}
+use Rattle.mc_model.specs.StandardForm.{first_sum, second_sum, standard_commands}
 use Rattle.mc_model.specs.Numbers.{pairs_below}
 use Rattle.mc_model.proofs.BitLemmas.{xor_comm}
 use Rattle.mc_model.proofs.SignalLemmas.{value-sum, toggled_all_rising}
 use Rattle.mc_model.proofs.SignalValues.{same_signals}
 use Rattle.mc_model.proofs.ValidInPlace.{InPlace, valid_in_place}
-use Rattle.mc_rules.specs.OnePass.{
-  none_carried,
-  handed_out,
-  joined,
-  handed,
-  measured_with,
-  carried,
-  OnePass,
-}
+use Rattle.mc_rules.specs.OnePass.{none_carried, handed_out, joined, handed, measured_with, carried}
+use Rattle.mc_rules.specs.OnePass.{OnePass}
 use Rattle.mc_rules.proofs.Stripped.{stripped}
 use Rattle.mc_rules.proofs.CorrectionFrames.{values}
 use Rattle.mc_rules.proofs.PlaceSums.{value-first_sum, value-second_sum}
-use Rattle.mc_rules.proofs.RunningSums.{
-  AllRising,
-  measurements_of,
-  first_rising,
-  second_rising,
-  reset_rising,
-  next_x,
-  next_z,
-  next_x_rising,
-  next_z_rising,
-  carried_x,
-  carried_z,
-  carried_gone,
-  carried_rising,
-}
+use Rattle.mc_rules.proofs.RunningSums.{AllRising, measurements_of, first_rising, second_rising}
+use Rattle.mc_rules.proofs.RunningSums.{reset_rising, next_x, next_z, next_x_rising, next_z_rising}
+use Rattle.mc_rules.proofs.RunningSums.{carried_x, carried_z, carried_gone, carried_rising}
 use Rattle.mc_rules.proofs.StandardAlike.{measured_form}
 
 -- ---- measurements

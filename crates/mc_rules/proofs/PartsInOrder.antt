@@ -1,5 +1,7 @@
 -- The parts of a list are in order where no command is of an earlier part than the one before it.
-use Rattle.std.proofs.Common.{◌≡◌, ◌||◌, false, ℕ, ◌≤◌, List, [], ◌∷◌, ◌++◌, map, refl, sym, ◌∙◌, ap, subst, arith, append_assoc}
+use Rattle.std.proofs.Common.{◌≡◌, ◌||◌, false, ℕ, ◌≤◌, List, [], ◌∷◌, ◌++◌, map, refl, sym}
+use Rattle.std.proofs.Common.{◌∙◌}
+use Rattle.std.proofs.Common.{ap, subst, arith, append_assoc}
 use Rattle.std.specs.Prelude.{nat_lt}
 use Rattle.std.proofs.lemmas.Bool.{or_parts, ltb-false}
 use Rattle.mc_model.specs.Pattern.{Command}

@@ -1,5 +1,6 @@
 -- The values of the sums over places, as sums of bits along a list.
-use Rattle.std.proofs.Common.{◌≡◌, ℕ, Bool, true, false, cond, ◌&&◌, List, [], ◌∷◌, ◌++◌, refl, sym, ◌∙◌, ap, ap₂}
+use Rattle.std.proofs.Common.{◌≡◌, ℕ, Bool, true, false, cond, ◌&&◌, List, [], ◌∷◌, ◌++◌, refl, sym}
+use Rattle.std.proofs.Common.{◌∙◌, ap, ap₂}
 use Rattle.std.specs.Prelude.{nat_eq}
 use Rattle.std.proofs.lemmas.Bool.{ne_eqb}
 use mathlib.Core.Path.{fun_ext}
@@ -7,7 +8,8 @@ use Rattle.mc_model.specs.Bits.{◌⊻◌, Bits, parity}
 use Rattle.mc_model.specs.Signals.{Signal, value, no_signal}
 use Rattle.mc_model.specs.Pattern.{Command, Prep, Ent, Meas, FixX, FixZ}
 use Rattle.mc_model.specs.Alike.{Misses}
-use Rattle.mc_model.specs.StandardForm.{where_same, sum_over_places, x_part, x_sum, first_part, second_part, first_sum, second_sum}
+use Rattle.mc_model.specs.StandardForm.{where_same, sum_over_places, x_part, x_sum, first_part}
+use Rattle.mc_model.specs.StandardForm.{second_part, first_sum, second_sum}
 use Rattle.mc_model.proofs.BitLemmas.{xor_assoc, xor_false}
 use Rattle.mc_model.proofs.SignalLemmas.{value-sum}
 use Rattle.mc_model.proofs.ValidInPlace.{AllMiss}

@@ -6,7 +6,11 @@ use Rattle.mc_model.specs.Bits.{Bits}
 use Rattle.mc_model.specs.Pattern.{Command, Ent, FixX, FixZ}
 use Rattle.mc_model.specs.Amplitude.{act, after}
 use Rattle.mc_model.specs.Alike.{AlikeCommands}
-use Rattle.mc_model.specs.Derivation.{Rule, XE, ZE, XM, ZM, Swap, Join, EE, Cancel, XZ, Turn, DropEmpty, Rewrites, x_first, x_second, z_first, z_second, x_measured, z_measured, swapped, x_joined, z_joined, edges_exchanged, same_cancelled, turned_cancelled, x_behind_z, z_behind_x, turned, x_dropped, z_dropped}
+use Rattle.mc_model.specs.Derivation.{Rule, XE, ZE, XM, ZM, Swap, Join, EE, Cancel, XZ, Turn}
+use Rattle.mc_model.specs.Derivation.{DropEmpty, Rewrites, x_first, x_second, z_first, z_second}
+use Rattle.mc_model.specs.Derivation.{x_measured, z_measured, swapped, x_joined, z_joined}
+use Rattle.mc_model.specs.Derivation.{edges_exchanged, same_cancelled, turned_cancelled, x_behind_z}
+use Rattle.mc_model.specs.Derivation.{z_behind_x, turned, x_dropped, z_dropped}
 use Rattle.mc_model.proofs.PhaseLemmas.{sign-twice}
 use Rattle.mc_model.proofs.BitLemmas.{xor_comm}
 use Rattle.mc_model.proofs.AlikeLemmas.{alike_back, alike_on, alike_within}

@@ -1,5 +1,7 @@
 -- What may change in a list without a change of its standard form.
-use Rattle.std.proofs.Common.{◌≡◌, ℕ, ◌+◌, Bool, true, false, ◌&&◌, ◌||◌, ◌⊎◌, List, [], ◌∷◌, ◌++◌, refl, sym, ◌∙◌, ap, ap₂, arith}
+use Rattle.std.proofs.Common.{◌≡◌, ℕ, ◌+◌, Bool, true, false, ◌&&◌, ◌||◌, ◌⊎◌, List, [], ◌∷◌}
+use Rattle.std.proofs.Common.{◌++◌}
+use Rattle.std.proofs.Common.{refl, sym, ◌∙◌, ap, ap₂, arith}
 use Rattle.std.specs.Prelude.{nat_eq, ⊤}
 use Rattle.std.proofs.lemmas.Bool.{eq-eqb, ne_eqb}
 use mathlib.Core.Path.{fun_ext}
@@ -9,16 +11,24 @@ use Rattle.mc_model.specs.Signals.{Signal, value, no_signal, signal_sum, Signals
 use Rattle.mc_model.specs.Pattern.{Command, Prep, Ent, Meas, FixX, FixZ}
 use Rattle.mc_model.specs.Alike.{Disjoint}
 use Rattle.mc_model.specs.Valid.{prepared, measured}
-use Rattle.mc_model.specs.StandardForm.{is_edge, corrections_below, measurements_with, preparations_of, first_sum, second_sum, standard_commands}
+use Rattle.mc_model.specs.StandardForm.{is_edge, corrections_below, measurements_with}
+use Rattle.mc_model.specs.StandardForm.{preparations_of, first_sum, second_sum, standard_commands}
 use Rattle.mc_model.specs.Numbers.{pairs_below}
-use Rattle.mc_model.specs.Derivation.{Rule, XE, ZE, XM, ZM, Swap, Join, EE, Cancel, XZ, Turn, DropEmpty, Rewrites, x_first, x_second, z_first, z_second, x_measured, z_measured, swapped, x_joined, z_joined, edges_exchanged, same_cancelled, turned_cancelled, x_behind_z, z_behind_x, turned, x_dropped, z_dropped}
+use Rattle.mc_model.specs.Derivation.{Rule, XE, ZE, XM, ZM, Swap, Join, EE, Cancel, XZ, Turn}
+use Rattle.mc_model.specs.Derivation.{DropEmpty, Rewrites, x_first, x_second, z_first, z_second}
+use Rattle.mc_model.specs.Derivation.{x_measured, z_measured, swapped, x_joined, z_joined}
+use Rattle.mc_model.specs.Derivation.{edges_exchanged, same_cancelled, turned_cancelled, x_behind_z}
+use Rattle.mc_model.specs.Derivation.{z_behind_x, turned, x_dropped, z_dropped}
 use Rattle.mc_model.proofs.PairLemmas.{is_edge-append}
 use Rattle.mc_model.proofs.BitLemmas.{xor_comm, xor_false}
 use Rattle.mc_model.proofs.SignalLemmas.{value-sum}
 use Rattle.mc_model.proofs.ValidLemmas.{measured-append, prepared-append}
 use Rattle.mc_model.proofs.ValidInPlace.{AllMiss}
 use Rattle.mc_model.proofs.SignalValues.{same_signals}
-use Rattle.mc_rules.proofs.PlaceSums.{total, total-append, first_bit, second_bit, x_bit, onward, behind_all, second_total, second-append, x_missed, second_unread, second_all_unread, value-first_sum, value-second_sum}
+use Rattle.mc_rules.proofs.PlaceSums.{total, total-append, first_bit, second_bit, x_bit, onward}
+use Rattle.mc_rules.proofs.PlaceSums.{behind_all, second_total, second-append, x_missed}
+use Rattle.mc_rules.proofs.PlaceSums.{second_unread, second_all_unread, value-first_sum}
+use Rattle.mc_rules.proofs.PlaceSums.{value-second_sum}
 use Rattle.mc_rules.proofs.RunningSums.{first_rising, second_rising}
 
 -- all that the standard form reads of a list

@@ -1,5 +1,7 @@
 -- The rules keep a list valid.
-use Rattle.std.proofs.Common.{◌≡◌, ℕ, ◌+◌, ◌<◌, Bool, true, false, ◌||◌, List, [], ◌∷◌, ◌++◌, refl, sym, ◌∙◌, ap, ap₂, arith, append_assoc}
+use Rattle.std.proofs.Common.{◌≡◌, ℕ, ◌+◌, ◌<◌, Bool, true, false, ◌||◌, List, [], ◌∷◌, ◌++◌}
+use Rattle.std.proofs.Common.{refl}
+use Rattle.std.proofs.Common.{sym, ◌∙◌, ap, ap₂, arith, append_assoc}
 use Rattle.std.specs.Prelude.{⊤}
 use Rattle.std.proofs.lemmas.Bool.{ne_eqb, or_parts, or_left}
 use mathlib.Core.Path.{fun_ext, subst}
@@ -7,10 +9,16 @@ use Rattle.mc_model.specs.Bits.{Bits}
 use Rattle.mc_model.specs.Signals.{Signal, signal_sum}
 use Rattle.mc_model.specs.Pattern.{Command, Prep, Ent, Meas, FixX, FixZ}
 use Rattle.mc_model.specs.Alike.{Disjoint, Misses}
-use Rattle.mc_model.specs.Valid.{AllDone, prepared, measured, FitsBehind, IsLive, SignalFits, IsValid}
-use Rattle.mc_model.specs.Derivation.{Rule, XE, ZE, XM, ZM, Swap, Join, EE, Cancel, XZ, Turn, DropEmpty, Rewrites, Lacks, UsesNot, x_first, x_second, z_first, z_second, x_measured, z_measured, swapped, x_joined, z_joined, edges_exchanged, same_cancelled, turned_cancelled, x_behind_z, z_behind_x, turned, x_dropped, z_dropped}
+use Rattle.mc_model.specs.Valid.{AllDone, prepared, measured, FitsBehind, IsLive, SignalFits}
+use Rattle.mc_model.specs.Valid.{IsValid}
+use Rattle.mc_model.specs.Derivation.{Rule, XE, ZE, XM, ZM, Swap, Join, EE, Cancel, XZ, Turn}
+use Rattle.mc_model.specs.Derivation.{DropEmpty, Rewrites, Lacks, UsesNot, x_first, x_second}
+use Rattle.mc_model.specs.Derivation.{z_first, z_second, x_measured, z_measured, swapped, x_joined}
+use Rattle.mc_model.specs.Derivation.{z_joined, edges_exchanged, same_cancelled, turned_cancelled}
+use Rattle.mc_model.specs.Derivation.{x_behind_z, z_behind_x, turned, x_dropped, z_dropped}
 use Rattle.mc_model.proofs.SignalLemmas.{toggled_all_rising}
-use Rattle.mc_model.proofs.ValidLemmas.{measured-append, moved_on, prepared-append, live_same, done_sum}
+use Rattle.mc_model.proofs.ValidLemmas.{measured-append, moved_on, prepared-append, live_same}
+use Rattle.mc_model.proofs.ValidLemmas.{done_sum}
 use Rattle.mc_rules.proofs.RulesKeepForm.{SameSums, Allowed, InTurn, rule_same}
 
 -- each command may stand behind what stands before it

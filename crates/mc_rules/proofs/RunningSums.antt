@@ -1,7 +1,9 @@
 -- One pass with two running signals for each qubit comes to the closed sums over places.
-use Rattle.std.proofs.Common.{◌≡◌, ℕ, Bool, true, false, ◌&&◌, ◌||◌, List, [], ◌∷◌, ◌++◌, refl, sym, ◌∙◌, ap, ap₂, arith}
+use Rattle.std.proofs.Common.{◌≡◌, ℕ, Bool, true, false, ◌&&◌, ◌||◌, List, [], ◌∷◌, ◌++◌, refl, sym}
+use Rattle.std.proofs.Common.{◌∙◌, ap, ap₂, arith}
 use Rattle.std.specs.Prelude.{nat_eq}
-use Rattle.std.proofs.lemmas.Bool.{eq-eqb, ne_eqb, cases_Bool, cases_eq, eqb-true, false≢true, true≢false, or_parts}
+use Rattle.std.proofs.lemmas.Bool.{eq-eqb, ne_eqb, cases_Bool, cases_eq, eqb-true, false≢true}
+use Rattle.std.proofs.lemmas.Bool.{true≢false, or_parts}
 use mathlib.Core.Path.{fun_ext}
 use mathlib.Core.Logic.{inl, inr}
 use Rattle.mc_model.specs.Bits.{◌⊻◌, Bits, parity}
@@ -11,11 +13,13 @@ use Rattle.mc_model.proofs.SignalLemmas.{reset, value-sum, toggled_all_rising}
 use Rattle.mc_rules.specs.OnePass.{joined, handed, carried}
 use Rattle.mc_rules.proofs.Stripped.{stripped, OperandsFit}
 use Rattle.mc_model.specs.Valid.{measured}
-use Rattle.mc_model.specs.StandardForm.{sum_over_places, first_part, second_part, first_sum, second_sum, measurements_with}
+use Rattle.mc_model.specs.StandardForm.{sum_over_places, first_part, second_part, first_sum}
+use Rattle.mc_model.specs.StandardForm.{second_sum, measurements_with}
 use Rattle.mc_model.proofs.BitLemmas.{xor_assoc, xor_false}
 use Rattle.mc_model.proofs.ValidInPlace.{AllMiss, WellMade, Final, InPlace, missed_unmeasured}
 use Rattle.mc_model.proofs.SignalValues.{same_signals}
-use Rattle.mc_rules.proofs.PlaceSums.{total, first_bit, second_bit, x_bit, onward, second_total, first_all_missed, second_all_missed, second_all_unread}
+use Rattle.mc_rules.proofs.PlaceSums.{total, first_bit, second_bit, x_bit, onward, second_total}
+use Rattle.mc_rules.proofs.PlaceSums.{first_all_missed, second_all_missed, second_all_unread}
 use Rattle.mc_rules.proofs.CorrectionFrames.{values}
 
 -- each signal is a set

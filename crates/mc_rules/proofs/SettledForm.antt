@@ -1,23 +1,29 @@
 -- A settled valid list is its own standard form.
-use Rattle.std.proofs.Common.{◌≡◌, ℕ, zero, suc, ◌+◌, ◌<◌, ◌≤◌, Bool, true, false, cond, ◌&&◌, List, [], ◌∷◌, ◌++◌, refl, sym, ◌∙◌, ap, ap₂, arith}
+use Rattle.std.proofs.Common.{◌≡◌, ℕ, zero, suc, ◌+◌, ◌<◌, ◌≤◌, Bool, true, false, cond, ◌&&◌, List}
+use Rattle.std.proofs.Common.{[], ◌∷◌, ◌++◌, refl, sym, ◌∙◌, ap, ap₂, arith}
 use Rattle.std.specs.Prelude.{nat_eq, nat_lt, ⊤}
-use Rattle.std.proofs.lemmas.Bool.{cases_eq, cases_order, cases_Bool, lt-ltb, le-ltb, ltb-true, eqb-true, eq-eqb, ne_eqb, and_parts, or_cases, or_parts, false≢true}
+use Rattle.std.proofs.lemmas.Bool.{cases_eq, cases_order, cases_Bool, lt-ltb, le-ltb, ltb-true}
+use Rattle.std.proofs.lemmas.Bool.{eqb-true, eq-eqb, ne_eqb, and_parts, or_cases, or_parts}
+use Rattle.std.proofs.lemmas.Bool.{false≢true}
 use mathlib.Core.Logic.{inl, inr}
 use mathlib.Core.Path.{subst}
 use Rattle.mc_model.specs.Bits.{◌⊻◌, Bits, parity}
-use Rattle.mc_model.specs.Signals.{Signal, no_signal, signal_sum, value, IsRising, Signals, is_empty}
+use Rattle.mc_model.specs.Signals.{Signal, no_signal, signal_sum, value, IsRising, Signals}
+use Rattle.mc_model.specs.Signals.{is_empty}
 use Rattle.mc_model.specs.Pattern.{Command, Prep, Ent, Meas, FixX, FixZ}
 use Rattle.mc_model.proofs.SignalLemmas.{reset, value-sum, toggled_all_rising}
 use Rattle.mc_rules.specs.OnePass.{joined, handed}
 use Rattle.mc_rules.proofs.Stripped.{stripped}
 use Rattle.mc_model.specs.Valid.{prepared, measured, IsValid}
-use Rattle.mc_model.specs.StandardForm.{is_edge, fix_x, fix_z, corrections_below, measurements_with, preparations_of, first_sum, second_sum, standard_commands}
+use Rattle.mc_model.specs.StandardForm.{is_edge, fix_x, fix_z, corrections_below, measurements_with}
+use Rattle.mc_model.specs.StandardForm.{preparations_of, first_sum, second_sum, standard_commands}
 use Rattle.mc_model.specs.Numbers.{pairs_below}
 use Rattle.mc_model.specs.Derivation.{part, pair_before, lower, higher}
 use Rattle.mc_model.proofs.BitLemmas.{xor_false}
 use Rattle.mc_model.proofs.ValidInPlace.{AllMiss, InPlace, valid_in_place}
 use Rattle.mc_model.proofs.SignalValues.{same_signals}
-use Rattle.mc_rules.proofs.PlaceSums.{total, first_bit, second_bit, x_bit, onward, second_total, value-first_sum, value-second_sum}
+use Rattle.mc_rules.proofs.PlaceSums.{total, first_bit, second_bit, x_bit, onward, second_total}
+use Rattle.mc_rules.proofs.PlaceSums.{value-first_sum, value-second_sum}
 use Rattle.mc_rules.proofs.RunningSums.{measurements_of, first_rising, second_rising}
 use Rattle.mc_rules.proofs.StandardAlike.{measured_form}
 use Rattle.mc_rules.proofs.RulesKeepForm.{onward_none}

@@ -1,19 +1,27 @@
 -- Either a use of a rule improves a valid list, or the list is settled: its parts are in order, and
 -- within them nothing is left to do.
-use Rattle.std.proofs.Common.{◌≡◌, ℕ, ◌+◌, ◌<◌, ◌≤◌, Bool, true, false, not, ◌&&◌, ◌||◌, ◌⊎◌, List, [], ◌∷◌, ◌++◌, map, refl, sym, ◌∙◌, ap, ap₂, arith, append_assoc}
+use Rattle.std.proofs.Common.{◌≡◌, ℕ, ◌+◌, ◌<◌, ◌≤◌, Bool, true, false, not, ◌&&◌, ◌||◌}
+use Rattle.std.proofs.Common.{◌⊎◌, List}
+use Rattle.std.proofs.Common.{[], ◌∷◌, ◌++◌, map, refl, sym, ◌∙◌, ap, ap₂, arith, append_assoc}
 use Rattle.std.specs.Prelude.{nat_eq, nat_lt}
-use Rattle.std.proofs.lemmas.Bool.{cases_lt, cases_order, cases_Bool, lt-ltb, le-ltb, ltb-false, eq-eqb, or_parts, or_left, false≢true}
+use Rattle.std.proofs.lemmas.Bool.{cases_lt, cases_order, cases_Bool, lt-ltb, le-ltb, ltb-false}
+use Rattle.std.proofs.lemmas.Bool.{eq-eqb, or_parts, or_left, false≢true}
 use mathlib.Core.Path.{subst}
 use mathlib.Core.Logic.{inl, inr}
 use Rattle.mc_model.specs.Signals.{Signal, no_signal, signal_sum, is_nil, is_empty}
 use Rattle.mc_model.specs.Pattern.{Command, Prep, Ent, Meas, FixX, FixZ}
 use Rattle.mc_model.specs.Valid.{IsValid}
-use Rattle.mc_model.specs.Derivation.{Rule, Join, Cancel, DropEmpty, Rewrites, same_cancelled, turned_cancelled, x_joined, z_joined, x_dropped, z_dropped, part, one_if, has_later, out_of_order, pair_before, lower, higher}
+use Rattle.mc_model.specs.Derivation.{Rule, Join, Cancel, DropEmpty, Rewrites, same_cancelled}
+use Rattle.mc_model.specs.Derivation.{turned_cancelled, x_joined, z_joined, x_dropped, z_dropped}
+use Rattle.mc_model.specs.Derivation.{part, one_if, has_later, out_of_order, pair_before, lower}
+use Rattle.mc_model.specs.Derivation.{higher}
 use Rattle.mc_rules.specs.Improves.{Improves}
 use Rattle.mc_rules.specs.Settled.{IsTidy, Follows, FirstFollows, IsSettled}
 use Rattle.mc_rules.proofs.RankFalls.{has-append, order-append}
 use Rattle.mc_rules.proofs.FirstOutOfOrder.{map-append, move_improves, none_later}
-use Rattle.mc_rules.proofs.ImprovedInOrder.{exchange_improves, turn_improves, shorten_improves, Shortens, join_x_shortens, join_z_shortens, cancel_shortens, drop_x_shortens, drop_z_shortens}
+use Rattle.mc_rules.proofs.ImprovedInOrder.{exchange_improves, turn_improves, shorten_improves}
+use Rattle.mc_rules.proofs.ImprovedInOrder.{Shortens, join_x_shortens, join_z_shortens}
+use Rattle.mc_rules.proofs.ImprovedInOrder.{cancel_shortens, drop_x_shortens, drop_z_shortens}
 
 later_more : (p q : ℕ) (xs : List ℕ) → p ≤ q → has_later p xs ≡ false → has_later q xs ≡ false
 unfolding has_later

@@ -1,7 +1,10 @@
 -- A list and its standard form are alike.
-use Rattle.std.proofs.Common.{◌≡◌, ℕ, zero, suc, ◌+◌, ◌<◌, ◌≤◌, Bool, true, false, cond, ◌&&◌, ◌||◌, List, [], ◌∷◌, ◌++◌, refl, sym, ◌∙◌, ap, ap₂, arith}
+use Rattle.std.proofs.Common.{◌≡◌, ℕ, zero, suc, ◌+◌, ◌<◌, ◌≤◌, Bool, true, false, cond, ◌&&◌}
+use Rattle.std.proofs.Common.{◌||◌}
+use Rattle.std.proofs.Common.{List, [], ◌∷◌, ◌++◌, refl, sym, ◌∙◌, ap, ap₂, arith}
 use Rattle.std.specs.Prelude.{nat_eq, nat_lt}
-use Rattle.std.proofs.lemmas.Bool.{eq-eqb, ne_eqb, lt-ltb, le-ltb, cases_Bool, cases_eq, cases_lt, cases_order}
+use Rattle.std.proofs.lemmas.Bool.{eq-eqb, ne_eqb, lt-ltb, le-ltb, cases_Bool, cases_eq, cases_lt}
+use Rattle.std.proofs.lemmas.Bool.{cases_order}
 use mathlib.Core.Path.{fun_ext}
 use mathlib.Core.Logic.{inl, inr}
 use Rattle.mc_model.specs.Phase.{PhaseOps, PhaseLaws, turn, sign}
@@ -17,17 +20,21 @@ use Rattle.mc_model.specs.Alike.{AlikeCommands}
 use Rattle.mc_rules.specs.OnePass.{carried, handed, joined}
 use Rattle.mc_rules.proofs.Stripped.{stripped}
 use Rattle.mc_model.specs.Valid.{prepared, measured, IsValid}
-use Rattle.mc_model.specs.StandardForm.{is_edge, fix_x, fix_z, corrections_below, measurements_with, first_sum, second_sum, standard_commands, standard_form}
+use Rattle.mc_model.specs.StandardForm.{is_edge, fix_x, fix_z, corrections_below, measurements_with}
+use Rattle.mc_model.specs.StandardForm.{first_sum, second_sum, standard_commands, standard_form}
 use Rattle.mc_model.specs.Numbers.{pairs_at, pairs_below}
 use Rattle.mc_model.proofs.PhaseLemmas.{sign-twice}
-use Rattle.mc_model.proofs.BitLemmas.{xor_comm, xor_false, xor_middle, replaced_itself, replaced_same, replaced_other}
+use Rattle.mc_model.proofs.BitLemmas.{xor_comm, xor_false, xor_middle, replaced_itself}
+use Rattle.mc_model.proofs.BitLemmas.{replaced_same, replaced_other}
 use Rattle.mc_model.proofs.AmplitudeLemmas.{after-append}
 use Rattle.mc_model.proofs.ExchangeLaws.{act_same, act-sign}
-use Rattle.mc_model.proofs.ValidInPlace.{AllMiss, InPlace, missed_unmeasured, valid_in_place, all_beyond}
+use Rattle.mc_model.proofs.ValidInPlace.{AllMiss, InPlace, missed_unmeasured, valid_in_place}
+use Rattle.mc_model.proofs.ValidInPlace.{all_beyond}
 use Rattle.mc_model.proofs.CorrectionsAct.{fix_x_acts, fix_z_acts, preparations_act}
 use Rattle.mc_rules.proofs.CorrectionFrames.{dot, dot_same, frame, values, stripped_alike}
 use Rattle.mc_rules.proofs.PlaceSums.{total, first_all_missed, value-first_sum, value-second_sum}
-use Rattle.mc_rules.proofs.RunningSums.{operands_fit, measurements_of, measurements_same, carried_x, carried_z, carried_gone, first_rising, second_rising}
+use Rattle.mc_rules.proofs.RunningSums.{operands_fit, measurements_of, measurements_same, carried_x}
+use Rattle.mc_rules.proofs.RunningSums.{carried_z, carried_gone, first_rising, second_rising}
 
 -- tests of a number against the next bound
 lt_none : (k : ℕ) → nat_lt k 0 ≡ false

@@ -1,5 +1,8 @@
 -- The standard form of a pattern of at most 256 qubits has few commands.
-use Rattle.std.proofs.Common.{◌≡◌, ℕ, zero, suc, ◌+◌, ◌*◌, ◌<◌, ◌≤◌, Bool, true, false, cond, ◌&&◌, List, [], ◌∷◌, ◌++◌, length, refl, sym, ap, subst, append_assoc, arith}
+use Rattle.std.proofs.Common.{◌≡◌, ℕ, zero, suc, ◌+◌, ◌*◌, ◌<◌, ◌≤◌, Bool, true, false, cond}
+use Rattle.std.proofs.Common.{◌&&◌}
+use Rattle.std.proofs.Common.{List, [], ◌∷◌, ◌++◌, length, refl, sym, ap, subst, append_assoc}
+use Rattle.std.proofs.Common.{arith}
 use Rattle.std.specs.Prelude.{nat_lt, count_by}
 use Rattle.std.proofs.Math.Nat.{mul-le-mul}
 use Rattle.std.proofs.lemmas.Bool.{eq-eqb, ne_eqb, cases_eq}
@@ -11,7 +14,9 @@ use Rattle.mc_model.specs.Bits.{Bits, replaced}
 use Rattle.mc_model.specs.Signals.{Signals, is_empty}
 use Rattle.mc_model.specs.Pattern.{Command, Pattern, Prep, Ent, Meas, FixX, FixZ}
 use Rattle.mc_model.specs.Valid.{prepared, measured, IsValid, IsValidPattern}
-use Rattle.mc_model.specs.StandardForm.{preparations_of, is_edge, measurements_with, fix_x, fix_z, corrections_below, first_sum, second_sum, standard_commands, standard_form}
+use Rattle.mc_model.specs.StandardForm.{preparations_of, is_edge, measurements_with, fix_x, fix_z}
+use Rattle.mc_model.specs.StandardForm.{corrections_below, first_sum, second_sum, standard_commands}
+use Rattle.mc_model.specs.StandardForm.{standard_form}
 use Rattle.mc_model.proofs.NumberLists.{length-numbers_from}
 use Rattle.mc_model.proofs.ValidLemmas.{moved_on, next_measured, none_measured, prepared-append}
 

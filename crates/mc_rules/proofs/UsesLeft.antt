@@ -1,10 +1,14 @@
 -- The rank as one number that falls with each use, where a use adds at most one command.
-use Rattle.std.proofs.Common.{◌≡◌, ◌⊎◌, ℕ, zero, suc, ◌+◌, ◌*◌, ◌<◌, ◌≤◌, Bool, true, false, List, [], ◌∷◌, ◌++◌, map, length, refl, arith}
+use Rattle.std.proofs.Common.{◌≡◌, ◌⊎◌, ℕ, zero, suc, ◌+◌, ◌*◌, ◌<◌, ◌≤◌, Bool, true, false}
+use Rattle.std.proofs.Common.{List}
+use Rattle.std.proofs.Common.{[], ◌∷◌, ◌++◌, map, length, refl, arith}
 use mathlib.Core.Logic.{inl, inr}
 use Rattle.std.proofs.lemmas.Bool.{cases_lt, cases_Bool}
 use Rattle.std.specs.Prelude.{nat_lt}
 use Rattle.mc_model.specs.Pattern.{Command}
-use Rattle.mc_model.specs.Derivation.{Rule, Rank, rank, part, one_if, has_later, count_later, first_out, is_wrong, count_wrong, wrong_pairs, is_turned, turned_edges}
+use Rattle.mc_model.specs.Derivation.{Rule, Rank, rank, part, one_if, has_later, count_later}
+use Rattle.mc_model.specs.Derivation.{first_out, is_wrong, count_wrong, wrong_pairs, is_turned}
+use Rattle.mc_model.specs.Derivation.{turned_edges}
 use Rattle.mc_rules.specs.Improves.{Descends, Improvement}
 use Rattle.mc_rules.specs.UsesLeft.{in_order_room, room_for, uses_from, uses_left}
 use Rattle.mc_rules.proofs.RankFalls.{first_none}

@@ -5,7 +5,8 @@ use Rattle.mc_model.specs.Numbers.{pairs_below}
 use Rattle.mc_model.specs.Signals.{Signal, no_signal, signal_sum, Signals}
 use Rattle.mc_model.specs.Pattern.{Command, Prep, Ent, Meas, FixX, FixZ}
 use Rattle.mc_model.specs.Valid.{prepared, IsValid}
-use Rattle.mc_model.specs.StandardForm.{preparations_of, is_edge, corrections_below, standard_commands}
+use Rattle.mc_model.specs.StandardForm.{preparations_of, is_edge, corrections_below}
+use Rattle.mc_model.specs.StandardForm.{standard_commands}
 
 -- no signals so far
 abbrev pub none_carried : Signals

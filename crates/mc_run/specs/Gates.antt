@@ -1,5 +1,6 @@
 -- The steps of gates and of commands.
-use Rattle.std.specs.Prelude.{◌≡◌, ℕ, ◌+◌, ◌^◌, ◌<◌, ◌≤◌, true, ℤ, List, ◌∷◌, length, All, ⊤}
+use Rattle.std.specs.Prelude.{◌≡◌, ℕ, ◌+◌, ◌^◌, ◌<◌, ◌≤◌, true, ℤ, List, ◌∷◌, length, All}
+use Rattle.std.specs.Prelude.{⊤}
 use Rattle.mc_model.specs.Bits.{Bits}
 use Rattle.mc_model.specs.Numbers.{is_member}
 use Rattle.mc_model.specs.Phase.{negated, measured_angle}

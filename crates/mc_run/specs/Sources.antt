@@ -1,5 +1,6 @@
 -- Vectors of entries, and where the entries behind a step come from.
-use Rattle.std.specs.Prelude.{◌≡◌, ℕ, ◌+◌, ◌*◌, ◌/◌, ◌^◌, ◌<◌, ◌≤◌, Bool, false, true, cond, not}
+use Rattle.std.specs.Prelude.{◌≡◌, ℕ, ◌+◌, ◌*◌, ◌/◌, ◌^◌, ◌<◌, ◌≤◌, Bool, false, true, cond}
+use Rattle.std.specs.Prelude.{not}
 use Rattle.std.specs.Prelude.{◌&&◌, ℤ, List, [], length, slice_index_or, ⊤}
 use Rattle.mc_model.specs.Bits.{◌⊻◌}
 use Rattle.mc_model.specs.Amplitude.{Amps}

@@ -1,5 +1,6 @@
 -- The least phase is found, and there is one least.
-use Rattle.std.proofs.Common.{◌≡◌, ℕ, zero, suc, ◌+◌, ◌*◌, ◌<◌, ◌≤◌, Bool, true, false, ◌&&◌, List}
+use Rattle.std.proofs.Common.{◌≡◌, ℕ, zero, suc, ◌+◌, ◌*◌, ◌<◌, ◌≤◌, Bool, true, false, ◌&&◌}
+use Rattle.std.proofs.Common.{List}
 use Rattle.std.proofs.Common.{[], ◌∷◌, map, refl, sym, ap, ap₂, ◌∙◌, inl, inr, ℤ, arith}
 use Rattle.std.specs.Prelude.{Option, None, Some, MatchOption, find}
 use Rattle.std.specs.Cmp.Lexicographic.{pointwise}

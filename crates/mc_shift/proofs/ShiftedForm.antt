@@ -1,5 +1,6 @@
 -- A valid pattern has one shifted form: the signal of each measured qubit is put in for it.
-use Rattle.std.proofs.Common.{◌≡◌, ℕ, Bool, true, false, List, [], ◌∷◌, ◌++◌, refl, sym, ◌∙◌, ap, ap₂, arith}
+use Rattle.std.proofs.Common.{◌≡◌, ℕ, Bool, true, false, List, [], ◌∷◌, ◌++◌, refl, sym, ◌∙◌, ap}
+use Rattle.std.proofs.Common.{ap₂, arith}
 use Rattle.std.specs.Prelude.{⊤}
 use Rattle.std.proofs.lemmas.Bool.{eq-eqb, ne_eqb, cases_eq, true≢false}
 use mathlib.Core.Path.{subst, fun_ext}
@@ -9,7 +10,8 @@ use Rattle.mc_model.specs.Bits.{◌⊻◌, Bits, all_zero, replaced, parity}
 use Rattle.mc_model.specs.Signals.{Signal, Signals, value, signal_of, signal_sum, IsRising}
 use Rattle.mc_model.specs.Pattern.{Command, Prep, Ent, Meas, FixX, FixZ, Pattern}
 use Rattle.mc_model.specs.Valid.{measured, AllDone, IsValid, IsValidPattern}
-use Rattle.mc_model.specs.Shift.{ChangeRow, new_outcomes, change_of, IsShiftedSignal, IsShifted, IsShiftedForm}
+use Rattle.mc_model.specs.Shift.{ChangeRow, new_outcomes, change_of, IsShiftedSignal, IsShifted}
+use Rattle.mc_model.specs.Shift.{IsShiftedForm}
 use Rattle.mc_model.proofs.BitLemmas.{xor_false, xor_assoc, xor_twice}
 use Rattle.mc_model.proofs.SignalLemmas.{value-sum, same_values, toggled_all_rising, reset}
 use Rattle.mc_model.proofs.ValidLemmas.{none_measured, next_measured, moved_on}

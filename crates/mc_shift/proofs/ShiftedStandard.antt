@@ -1,19 +1,23 @@
 -- The shifted form of a standard form is its own standard form.
-use Rattle.std.proofs.Common.{◌≡◌, ℕ, suc, ◌+◌, true, false, List, [], ◌∷◌, ◌++◌, length, refl, sym, ◌∙◌, ap, subst, arith}
+use Rattle.std.proofs.Common.{◌≡◌, ℕ, suc, ◌+◌, true, false, List, [], ◌∷◌, ◌++◌, length, refl, sym}
+use Rattle.std.proofs.Common.{◌∙◌, ap, subst, arith}
 use Rattle.std.specs.Prelude.{nat_eq}
 use Rattle.std.proofs.lemmas.Bool.{cases_Bool, true≢false}
 use mathlib.Core.Logic.{inl, inr}
 use Rattle.mc_model.specs.Bits.{Bits, parity}
-use Rattle.mc_model.specs.Signals.{Signal, Signals, value, no_signal, signal_of, signal_sum, is_empty, IsRising}
+use Rattle.mc_model.specs.Signals.{Signal, Signals, value, no_signal, signal_of, signal_sum}
+use Rattle.mc_model.specs.Signals.{is_empty, IsRising}
 use Rattle.mc_model.specs.Pattern.{Command, Prep, Ent, Meas, FixX, FixZ, Pattern}
 use Rattle.mc_model.specs.Valid.{prepared, IsValidPattern}
 use Rattle.mc_model.specs.StandardForm.{preparations_of, standard_form}
-use Rattle.mc_model.specs.Shift.{ChangeRow, new_outcomes, change_of, IsShiftedSignal, IsShifted, IsShiftedForm}
+use Rattle.mc_model.specs.Shift.{ChangeRow, new_outcomes, change_of, IsShiftedSignal, IsShifted}
+use Rattle.mc_model.specs.Shift.{IsShiftedForm}
 use Rattle.mc_model.proofs.SignalLemmas.{reset, toggled_all_rising}
 use Rattle.mc_model.proofs.ValidInPlace.{WellMade, InPlace, valid_in_place}
 use Rattle.mc_model.proofs.SignalValues.{same_signals, empty_signal}
 use Rattle.mc_pattern.specs.Typed.{IsSet, AllTyped}
-use Rattle.mc_rules.specs.Parts.{IsInParts, entanglings_of, measurements_of, corrections_of, with_signals}
+use Rattle.mc_rules.specs.Parts.{IsInParts, entanglings_of, measurements_of, corrections_of}
+use Rattle.mc_rules.specs.Parts.{with_signals}
 use Rattle.mc_standard.specs.StandardForms.{IsStandardForm}
 use Rattle.mc_rules.specs.Laws.{SettledIsStandard}
 use Rattle.mc_rules.specs.Settled.{IsTidy, Follows, FirstFollows, IsSettled}

@@ -1,5 +1,6 @@
 -- The shifted form of a valid pattern is valid, and prepares and measures what the pattern does.
-use Rattle.std.proofs.Common.{◌≡◌, ℕ, suc, ◌+◌, Bool, true, false, not, ◌||◌, List, [], ◌∷◌, ◌++◌, length, refl, sym, ◌∙◌, ap, ap₂, append_assoc, append-nil, arith}
+use Rattle.std.proofs.Common.{◌≡◌, ℕ, suc, ◌+◌, Bool, true, false, not, ◌||◌, List, [], ◌∷◌, ◌++◌}
+use Rattle.std.proofs.Common.{length, refl, sym, ◌∙◌, ap, ap₂, append_assoc, append-nil, arith}
 use Rattle.std.specs.Prelude.{nat_eq}
 use Rattle.std.proofs.lemmas.Bool.{eq-eqb, ne_eqb, cases_eq}
 use mathlib.Core.Path.{subst, fun_ext}
@@ -13,7 +14,9 @@ use Rattle.mc_model.specs.Valid.{prepared, measured, SignalFits, AllDone, IsVali
 use Rattle.mc_model.specs.Shift.{ChangeRow, change_of, IsShifted, IsShiftedForm}
 use Rattle.mc_model.proofs.BitLemmas.{replaced_same, replaced_other}
 use Rattle.mc_model.proofs.SignalLemmas.{reset}
-use Rattle.mc_model.proofs.ValidLemmas.{measured-append, prepared-append, next_measured, none_measured, moved_on, valid_with, nothing_valid, done_sum, live_same}
+use Rattle.mc_model.proofs.ValidLemmas.{measured-append, prepared-append, next_measured}
+use Rattle.mc_model.proofs.ValidLemmas.{none_measured, moved_on, valid_with, nothing_valid}
+use Rattle.mc_model.proofs.ValidLemmas.{done_sum, live_same}
 use Rattle.mc_shift.specs.Laws.{IsValidShiftedForm}
 use Rattle.mc_shift.specs.Shifted.{expanded, shifted_signal, shifted, none_yet, shifted_form}
 use Rattle.mc_shift.proofs.ShiftedForm.{expanded_rising, form_exists, form_unique}

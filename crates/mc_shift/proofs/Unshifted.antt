@@ -1,5 +1,6 @@
 -- A valid pattern without second signals is its own shifted form.
-use Rattle.std.proofs.Common.{◌≡◌, ℕ, Bool, true, false, cond, List, [], ◌∷◌, ◌++◌, refl, sym, ◌∙◌, ap}
+use Rattle.std.proofs.Common.{◌≡◌, ℕ, Bool, true, false, cond, List, [], ◌∷◌, ◌++◌, refl, sym, ◌∙◌}
+use Rattle.std.proofs.Common.{ap}
 use Rattle.std.specs.Prelude.{nat_eq}
 use Rattle.std.specs.List.{AllByRecursion}
 use Rattle.std.proofs.lemmas.List.Elements.{All-from_recursion}
@@ -8,7 +9,8 @@ use Rattle.mc_model.specs.Bits.{◌⊻◌, Bits, parity}
 use Rattle.mc_model.specs.Signals.{Signal, value, no_signal, IsRising}
 use Rattle.mc_model.specs.Pattern.{Command, Prep, Ent, Meas, FixX, FixZ, Pattern}
 use Rattle.mc_model.specs.Valid.{IsValid, IsValidPattern}
-use Rattle.mc_model.specs.Shift.{ChangeRow, new_outcomes, change_of, IsShiftedSignal, IsShifted, IsShiftedForm, HasNoSecondSignals}
+use Rattle.mc_model.specs.Shift.{ChangeRow, new_outcomes, change_of, IsShiftedSignal, IsShifted}
+use Rattle.mc_model.specs.Shift.{IsShiftedForm, HasNoSecondSignals}
 use Rattle.mc_model.proofs.ValidLemmas.{moved_on}
 use Rattle.mc_shift.specs.Laws.{HasOneShiftedForm, IsUnshifted}
 

@@ -4,7 +4,8 @@ ghost use Rattle.mc_model.specs.Pattern.{Pattern};
 ghost use Rattle.mc_model.specs.Valid.{IsValidPattern};
 ghost use Rattle.mc_model.specs.Shift.{IsShiftedForm};
 ghost use Rattle.mc_shift.specs.Shifted.{shifted_form};
-ghost use Rattle.mc_shift.specs.Laws.{HasOneShiftedForm, NewOutcomesAreABijection, NoSecondSignalsNoShift, ShiftKeepsMaps, ShiftedFormsAreValid};
+ghost use Rattle.mc_shift.specs.Laws.{HasOneShiftedForm, NewOutcomesAreABijection};
+ghost use Rattle.mc_shift.specs.Laws.{NoSecondSignalsNoShift, ShiftKeepsMaps, ShiftedFormsAreValid};
 
 /// At the changed outcomes the shifted form of a valid pattern has the branch map of the pattern.
 pub fn shift_keeps_maps()

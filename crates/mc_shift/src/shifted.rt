@@ -1,12 +1,14 @@
 //! Signal shifting.
 
-ghost use Rattle.std.specs.Prelude.{◌≡◌, ℕ, ◌<◌, [], ◌∷◌, ◌++◌, Bool, List, IfOk, OnOk, length, map};
+ghost use Rattle.std.specs.Prelude.{◌≡◌, ℕ, ◌<◌, [], ◌∷◌, ◌++◌, Bool, List, IfOk, OnOk, length};
+ghost use Rattle.std.specs.Prelude.{map};
 ghost use Rattle.mc_model.specs.Bits.{Bits};
 ghost use Rattle.mc_model.specs.Ring.{ring};
 ghost use Rattle.mc_model.specs.Pattern.{Pattern};
 ghost use Rattle.mc_model.specs.Amplitude.{branch_map};
 ghost use Rattle.mc_model.specs.Valid.{measured};
-ghost use Rattle.mc_model.specs.Shift.{change_of, new_outcomes, IsShifted, IsShiftedForm, IsInShiftedForm};
+ghost use Rattle.mc_model.specs.Shift.{change_of, new_outcomes, IsShifted, IsShiftedForm};
+ghost use Rattle.mc_model.specs.Shift.{IsInShiftedForm};
 ghost use Rattle.mc_rules.specs.Parts.{measurements_of, corrections_of, IsInParts};
 ghost use Rattle.mc_standard.specs.StandardForms.{IsStandardForm};
 ghost use Rattle.mc_standard.specs.Plain.{plain_measure, plain_fix};

@@ -1,5 +1,6 @@
 -- The members of a toggled set and of a sum.
-use Rattle.std.proofs.Common.{◌≡◌, ℕ, ◌<◌, Bool, true, false, ◌||◌, List, [], ◌∷◌, refl, ◌∙◌, arith, suc, get_or, length, All}
+use Rattle.std.proofs.Common.{◌≡◌, ℕ, ◌<◌, Bool, true, false, ◌||◌, List, [], ◌∷◌, refl, ◌∙◌, arith}
+use Rattle.std.proofs.Common.{suc, get_or, length, All}
 use Rattle.std.specs.Prelude.{nat_eq, nat_lt}
 use Rattle.std.proofs.lemmas.Bool.{ne_eqb, eqb-true, ltb-true, cases_Bool}
 use mathlib.Core.Logic.{inl, inr}

@@ -1,5 +1,6 @@
 -- Sums of outcomes over a sum of sets, and over a set in which a member is replaced.
-use Rattle.std.proofs.Common.{◌≡◌, ℕ, Bool, true, false, ◌&&◌, ◌||◌, List, [], ◌∷◌, refl, sym, ◌∙◌, ap, arith, not, length, get_or, drop, ◌+◌, ◌<◌, ◌≤◌, add-one}
+use Rattle.std.proofs.Common.{◌≡◌, ℕ, Bool, true, false, ◌&&◌, ◌||◌, List, [], ◌∷◌, refl, sym, ◌∙◌}
+use Rattle.std.proofs.Common.{ap, arith, not, length, get_or, drop, ◌+◌, ◌<◌, ◌≤◌, add-one}
 use Rattle.std.specs.Prelude.{nat_eq, if◌then◌else◌}
 use Rattle.std.proofs.Math.Bool.{beq}
 use Rattle.std.proofs.Math.Seq.{drop-cons}
@@ -7,7 +8,8 @@ use Rattle.std.proofs.lemmas.List.{drop_all}
 use Rattle.std.proofs.lemmas.Bool.{eqb-true, eqb-false, eq-eqb, ne_eqb, or_parts}
 use Rattle.mc_model.specs.Numbers.{is_member}
 use Rattle.mc_model.specs.Bits.{◌⊻◌, Bits, parity, replaced}
-use Rattle.mc_model.specs.Signals.{Signal, value, one_signal, signal_of, signal_sum, toggled, toggled_all, AllAbove, IsRising}
+use Rattle.mc_model.specs.Signals.{Signal, value, one_signal, signal_of, signal_sum, toggled}
+use Rattle.mc_model.specs.Signals.{toggled_all, AllAbove, IsRising}
 use Rattle.mc_model.proofs.SignalLemmas.{value-sum}
 use Rattle.mc_signal.proofs.Members.{is_member-above}
 

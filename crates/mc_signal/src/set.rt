@@ -1,6 +1,9 @@
 //! Sets of qubits.
 
-ghost use Rattle.std.specs.Prelude.{◌≡◌, ◌<◌, ◌≤◌, ◌↔◌, ℕ, Bool, [], ◌∷◌, ◌++◌, All, IfOk, IsTrue, MatchResult, Some, OnErr, OnOk, insert, length, nat_eq, remove, slice_get};
+ghost use Rattle.std.specs.Prelude.{◌≡◌, ◌<◌, ◌≤◌, ◌↔◌, ℕ, Bool, [], ◌∷◌, ◌++◌, All, IfOk};
+ghost use Rattle.std.specs.Prelude.{IsTrue};
+ghost use Rattle.std.specs.Prelude.{MatchResult, Some, OnErr, OnOk, insert, length, nat_eq, remove};
+ghost use Rattle.std.specs.Prelude.{slice_get};
 ghost use Rattle.mc_model.specs.Numbers.{is_member};
 ghost use Rattle.mc_model.specs.Bits.{◌⊻◌, Bits, parity, replaced};
 ghost use Rattle.mc_model.specs.Signals.{IsRising, toggled, toggled_all};

@@ -1,18 +1,11 @@
 //! Signals.
 
-ghost use Rattle.std.specs.Prelude.{◌≡◌, ◌<◌, ℕ, All, IfOk, OnErr, OnOk, false, not, length, if◌then◌else◌};
+ghost use Rattle.std.specs.Prelude.{◌≡◌, ◌<◌, ℕ, All, IfOk, OnErr, OnOk, false, not, length};
+ghost use Rattle.std.specs.Prelude.{if◌then◌else◌};
 ghost use Rattle.mc_model.specs.Numbers.{is_member};
 ghost use Rattle.mc_model.specs.Bits.{◌⊻◌, Bits, parity, replaced, bits_of};
-ghost use Rattle.mc_model.specs.Signals.{
-  Signal as PlainSignal,
-  IsRising,
-  no_signal,
-  one_signal,
-  signal_of,
-  signal_sum,
-  is_empty,
-  value,
-};
+ghost use Rattle.mc_model.specs.Signals.{Signal as PlainSignal, IsRising, no_signal, one_signal};
+ghost use Rattle.mc_model.specs.Signals.{signal_of, signal_sum, is_empty, value};
 
 use crate::outcomes::Outcomes;
 use crate::set::QSet;

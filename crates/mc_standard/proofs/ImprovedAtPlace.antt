@@ -1,14 +1,21 @@
 -- What is picked for the commands at a place improves the list that they stand in.
-use Rattle.std.proofs.Common.{◌≡◌, ◌⊎◌, ℕ, suc, ◌+◌, ◌-◌, ◌<◌, ◌≤◌, true, List, [], ◌∷◌, ◌++◌, map, length, take, drop, get_or, refl, sym, ◌∙◌, ap, ap₂, subst, arith}
+use Rattle.std.proofs.Common.{◌≡◌, ◌⊎◌, ℕ, suc, ◌+◌, ◌-◌, ◌<◌, ◌≤◌, true, List, [], ◌∷◌}
+use Rattle.std.proofs.Common.{◌++◌, map}
+use Rattle.std.proofs.Common.{length, take, drop, get_or, refl, sym, ◌∙◌, ap, ap₂, subst, arith}
 use Rattle.std.proofs.lemmas.Bool.{ltb-true}
 use Rattle.std.proofs.lemmas.List.{get_or-append-add, map-append, length-map}
-use Rattle.std.proofs.Math.Seq.{get_or-append_seam, take-append_seam, drop-append_seam, take-append-add}
+use Rattle.std.proofs.Math.Seq.{get_or-append_seam, take-append_seam, drop-append_seam}
+use Rattle.std.proofs.Math.Seq.{take-append-add}
 use Rattle.std.proofs.Math.ListN.{get_or-map}
 use mathlib.Core.Logic.{inl, inr}
 use Rattle.mc_model.specs.Signals.{no_signal}
 use Rattle.mc_model.specs.Pattern.{Command, FixX, FixZ}
 use Rattle.mc_model.specs.Valid.{IsValid}
-use Rattle.mc_model.specs.Derivation.{Rule, XE, ZE, XM, ZM, Swap, Join, EE, Cancel, XZ, Turn, DropEmpty, Rewrites, x_first, x_second, z_first, z_second, x_measured, z_measured, swapped, x_joined, z_joined, edges_exchanged, same_cancelled, turned_cancelled, x_behind_z, z_behind_x, turned, x_dropped, z_dropped, part, is_turned}
+use Rattle.mc_model.specs.Derivation.{Rule, XE, ZE, XM, ZM, Swap, Join, EE, Cancel, XZ, Turn}
+use Rattle.mc_model.specs.Derivation.{DropEmpty, Rewrites, x_first, x_second, z_first, z_second}
+use Rattle.mc_model.specs.Derivation.{x_measured, z_measured, swapped, x_joined, z_joined}
+use Rattle.mc_model.specs.Derivation.{edges_exchanged, same_cancelled, turned_cancelled, x_behind_z}
+use Rattle.mc_model.specs.Derivation.{z_behind_x, turned, x_dropped, z_dropped, part, is_turned}
 use Rattle.mc_standard.specs.declared.change.Change.{Change}
 use Rattle.mc_standard.specs.declared.change.Change.TheVariants as change
 use Rattle.mc_standard.specs.declared.change.Rewrite.{Rewrite}
@@ -19,7 +26,9 @@ use Rattle.mc_rules.specs.Settled.{OperandsDiffer, IsTidy, Follows, InOrder}
 use Rattle.mc_standard.specs.Uses.{plain_rule}
 use Rattle.mc_standard.proofs.Edits.{one_at, two_at}
 use Rattle.mc_rules.proofs.FirstOutOfOrder.{may_pass, moved, local_fit}
-use Rattle.mc_rules.proofs.ImprovedInOrder.{Shortens, join_x_shortens, join_z_shortens, cancel_shortens, drop_x_shortens, drop_z_shortens, shortened, exchanged, turned_round}
+use Rattle.mc_rules.proofs.ImprovedInOrder.{Shortens, join_x_shortens, join_z_shortens}
+use Rattle.mc_rules.proofs.ImprovedInOrder.{cancel_shortens, drop_x_shortens, drop_z_shortens}
+use Rattle.mc_rules.proofs.ImprovedInOrder.{shortened, exchanged, turned_round}
 
 -- ---- reads
 

@@ -1,21 +1,6 @@
 -- Lists of commands made of four parts, one after the other.
-use Rattle.std.proofs.Common.{
-  ◌≡◌,
-  ℕ,
-  List,
-  [],
-  ◌∷◌,
-  ◌++◌,
-  map,
-  refl,
-  sym,
-  ◌∙◌,
-  ap,
-  ap₂,
-  subst,
-  append-nil,
-  arith,
-}
+use Rattle.std.proofs.Common.{◌≡◌, ℕ, List, [], ◌∷◌, ◌++◌, map, refl, sym, ◌∙◌, ap, ap₂, subst}
+use Rattle.std.proofs.Common.{append-nil, arith}
 use Rattle.std.specs.Prelude.{nat_eq}
 use Rattle.std.proofs.lemmas.Bool.{eq-eqb, ne_eqb, cases_eq}
 use mathlib.Core.Logic.{inl, inr}
@@ -23,15 +8,8 @@ use Rattle.std.proofs.lemmas.List.Elements.{filter-append}
 use Rattle.mc_model.specs.Pattern.{Command, Prep, Ent, Meas, FixX, FixZ}
 use Rattle.mc_model.specs.StandardForm.{preparations_of}
 use Rattle.mc_model.specs.Derivation.{part}
-use Rattle.mc_rules.specs.Parts.{
-  part_of,
-  entanglings_of,
-  measurements_of,
-  corrections_of,
-  HasParts,
-  AllOf,
-  IsInParts,
-}
+use Rattle.mc_rules.specs.Parts.{part_of, entanglings_of, measurements_of, corrections_of, HasParts}
+use Rattle.mc_rules.specs.Parts.{AllOf, IsInParts}
 
 pub all_of_map : {A : Type 0} (k : ℕ) (f : A → Command) → ((x : A) → part (f x) ≡ k) →
     (xs : List A) → AllOf k (map f xs)

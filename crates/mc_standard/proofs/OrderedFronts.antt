@@ -1,5 +1,7 @@
 -- Along a list: how far its parts are in order, and how far it is settled.
-use Rattle.std.proofs.Common.{◌≡◌, ◌||◌, false, ℕ, zero, suc, ◌+◌, ◌-◌, ◌<◌, ◌≤◌, MatchBool, List, [], ◌∷◌, ◌++◌, map, length, take, drop, get_or, refl, sym, ◌∙◌, ap, ap₂, subst, arith, append_assoc}
+use Rattle.std.proofs.Common.{◌≡◌, ◌||◌, false, ℕ, zero, suc, ◌+◌, ◌-◌, ◌<◌, ◌≤◌, MatchBool, List}
+use Rattle.std.proofs.Common.{[], ◌∷◌, ◌++◌, map, length, take, drop, get_or, refl, sym, ◌∙◌, ap}
+use Rattle.std.proofs.Common.{ap₂, subst, arith, append_assoc}
 use Rattle.std.specs.Prelude.{nat_lt}
 use Rattle.std.proofs.lemmas.Bool.{cases_lt, lt-ltb, le-ltb, or_parts, ltb-false}
 use Rattle.std.proofs.lemmas.List.{get_or-map, take-take, take-append-drop}
@@ -9,7 +11,8 @@ use Rattle.mc_model.specs.Pattern.{Command}
 use Rattle.mc_model.specs.Derivation.{Rule, Use, part, has_later, out_of_order}
 use Rattle.mc_pattern.specs.Commands.{plain_command}
 use Rattle.mc_pattern.specs.declared.command.Command.{Command as Coded}
-use Rattle.mc_standard.specs.Places.{part_at, IsEarly, SettlesAt, IsTidyAt, FollowsAt, StaysSettled, Settles}
+use Rattle.mc_standard.specs.Places.{part_at, IsEarly, SettlesAt, IsTidyAt, FollowsAt, StaysSettled}
+use Rattle.mc_standard.specs.Places.{Settles}
 use Rattle.mc_rules.specs.Settled.{IsTidy, Follows, IsSettled, InOrder}
 use Rattle.mc_standard.proofs.Edits.{two_at}
 use Rattle.mc_rules.proofs.FirstOutOfOrder.{differ, map-append, none_later}

@@ -5,7 +5,8 @@ use mathlib.Core.Logic.{inl, inr}
 use Rattle.mc_model.specs.Pattern.{Command, Ent, FixX, FixZ}
 use Rattle.mc_model.specs.Signals.{Signal}
 use Rattle.mc_model.specs.Alike.{Disjoint, Misses}
-use Rattle.mc_model.specs.Derivation.{Cancel, Rewrites, UsesNot, swapped, same_cancelled, turned_cancelled, part, lower, higher, pair_before, is_wrong}
+use Rattle.mc_model.specs.Derivation.{Cancel, Rewrites, UsesNot, swapped, same_cancelled}
+use Rattle.mc_model.specs.Derivation.{turned_cancelled, part, lower, higher, pair_before, is_wrong}
 use Rattle.mc_pattern.specs.Commands.{plain_command}
 use Rattle.mc_pattern.specs.declared.command.Command.{Command as Coded}
 use Rattle.mc_pattern.specs.declared.command.Command.TheVariants as coded

@@ -1,7 +1,11 @@
 -- A rule keeps the types: angles below a turn, and plain signals.
 use Rattle.std.proofs.Common.{ℕ, List, [], ◌∷◌, ◌++◌, subst}
 use Rattle.mc_model.specs.Pattern.{Command}
-use Rattle.mc_model.specs.Derivation.{Rule, XE, ZE, XM, ZM, Swap, Join, EE, Cancel, XZ, Turn, DropEmpty, Rewrites, Step, x_first, x_second, z_first, z_second, x_measured, z_measured, swapped, x_joined, z_joined, edges_exchanged, same_cancelled, turned_cancelled, x_behind_z, z_behind_x, turned, x_dropped, z_dropped}
+use Rattle.mc_model.specs.Derivation.{Rule, XE, ZE, XM, ZM, Swap, Join, EE, Cancel, XZ, Turn}
+use Rattle.mc_model.specs.Derivation.{DropEmpty, Rewrites, Step, x_first, x_second, z_first}
+use Rattle.mc_model.specs.Derivation.{z_second, x_measured, z_measured, swapped, x_joined, z_joined}
+use Rattle.mc_model.specs.Derivation.{edges_exchanged, same_cancelled, turned_cancelled, x_behind_z}
+use Rattle.mc_model.specs.Derivation.{z_behind_x, turned, x_dropped, z_dropped}
 use Rattle.mc_pattern.specs.Typed.{AllTyped}
 use Rattle.mc_standard.proofs.StandardTyped.{sum_set, typed_append}
 use mathlib.Core.Path.{sym}

@@ -1,5 +1,8 @@
 -- One more command of a pass, and what the pass comes to at the end.
-use Rattle.std.proofs.Common.{◌≡◌, ℕ, zero, suc, ◌+◌, ◌<◌, ◌≤◌, Bool, false, List, [], ◌∷◌, ◌++◌, length, map, drop, set, get_or, get_or-set_same, get_or-set_other, refl, sym, ◌∙◌, ap, ap₂, arith, append_assoc, append-nil}
+use Rattle.std.proofs.Common.{◌≡◌, ℕ, zero, suc, ◌+◌, ◌<◌, ◌≤◌, Bool, false, List, [], ◌∷◌}
+use Rattle.std.proofs.Common.{◌++◌}
+use Rattle.std.proofs.Common.{length, map, drop, set, get_or, get_or-set_same, get_or-set_other}
+use Rattle.std.proofs.Common.{refl, sym, ◌∙◌, ap, ap₂, arith, append_assoc, append-nil}
 use Rattle.std.proofs.lemmas.Bool.{eq-eqb, ne_eqb, cases_eq}
 use Rattle.std.proofs.lemmas.Option.{unwrap_or-slice_get}
 use Rattle.std.proofs.lemmas.List.{get_or_default}
@@ -11,26 +14,13 @@ use Rattle.mc_model.specs.Numbers.{pairs_below}
 use Rattle.mc_model.specs.Signals.{Signal, Signals, no_signal, signal_sum}
 use Rattle.mc_model.specs.Pattern.{Command, Prep, Ent, Meas, FixX, FixZ}
 use Rattle.mc_model.specs.Valid.{prepared, IsValid}
-use Rattle.mc_model.specs.StandardForm.{
-  preparations_of,
-  is_edge,
-  fix_x,
-  fix_z,
-  corrections_below,
-  standard_commands,
-}
+use Rattle.mc_model.specs.StandardForm.{preparations_of, is_edge, fix_x, fix_z, corrections_below}
+use Rattle.mc_model.specs.StandardForm.{standard_commands}
 use Rattle.mc_model.proofs.BitLemmas.{xor_assoc, xor_false}
 use Rattle.mc_model.proofs.SignalLemmas.{reset}
 use Rattle.mc_model.proofs.ValidInPlace.{InPlace, valid_in_place}
-use Rattle.mc_rules.specs.OnePass.{
-  none_carried,
-  joined,
-  handed,
-  handed_out,
-  measured_with,
-  carried,
-  OnePass,
-}
+use Rattle.mc_rules.specs.OnePass.{none_carried, joined, handed, handed_out, measured_with, carried}
+use Rattle.mc_rules.specs.OnePass.{OnePass}
 use Rattle.mc_standard.specs.OddPairs.{is_odd}
 use Rattle.mc_standard.specs.Running.{signals_of, AllBelow, LeadsOn}
 use Rattle.mc_standard.proofs.OddPairs.{pairs_below-same}

@@ -5,7 +5,10 @@ use Rattle.mc_model.specs.Numbers.{pairs_at, pairs_below}
 use Rattle.mc_model.specs.Signals.{Signal, Signals, no_signal, signal_sum, is_empty}
 use Rattle.mc_model.specs.Pattern.{Command, Pattern, Prep, Ent, Meas, FixX, FixZ}
 use Rattle.mc_model.specs.Valid.{prepared, measured}
-use Rattle.mc_model.specs.StandardForm.{where_same, sum_over_places, x_part, x_sum, first_part, second_part, first_sum, second_sum, preparations_of, is_edge, measurements_with, fix_x, fix_z, corrections_below, standard_commands, standard_form}
+use Rattle.mc_model.specs.StandardForm.{where_same, sum_over_places, x_part, x_sum, first_part}
+use Rattle.mc_model.specs.StandardForm.{second_part, first_sum, second_sum, preparations_of}
+use Rattle.mc_model.specs.StandardForm.{is_edge, measurements_with, fix_x, fix_z, corrections_below}
+use Rattle.mc_model.specs.StandardForm.{standard_commands, standard_form}
 use Rattle.mc_model.proofs.SignalLemmas.{toggled_all_rising}
 use Rattle.mc_pattern.specs.Typed.{IsSet, IsTyped, AllTyped}
 

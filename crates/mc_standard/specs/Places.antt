@@ -1,5 +1,6 @@
 -- What the rewriter finds at a place of a list, and what it makes there.
-use Rattle.std.specs.Prelude.{◌≡◌, ℕ, ◌-◌, ◌<◌, ◌≤◌, List, ◌∷◌, ◌++◌, length, map, take, slice_index}
+use Rattle.std.specs.Prelude.{◌≡◌, ℕ, ◌-◌, ◌<◌, ◌≤◌, List, ◌∷◌, ◌++◌, length, map, take}
+use Rattle.std.specs.Prelude.{slice_index}
 use Rattle.mc_model.specs.Pattern.{Command}
 use Rattle.mc_model.specs.Valid.{IsValid}
 use Rattle.mc_model.specs.Derivation.{Rule, Use, part}

@@ -1,6 +1,7 @@
 //! Changes within a list of commands.
 
-ghost use Rattle.std.specs.Prelude.{◌≡◌, ◌+◌, ◌≤◌, ◌<◌, ◌++◌, map, take, drop, slice_set, vec_len, OnOk, OnErr};
+ghost use Rattle.std.specs.Prelude.{◌≡◌, ◌+◌, ◌≤◌, ◌<◌, ◌++◌, map, take, drop, slice_set, vec_len};
+ghost use Rattle.std.specs.Prelude.{OnOk, OnErr};
 ghost use Rattle.std.specs.List.{remove};
 ghost use Rattle.mc_pattern.specs.Commands.{plain_command};
 ghost use Rattle.mc_standard.specs.Changes.{reach, changed};

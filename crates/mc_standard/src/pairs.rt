@@ -1,6 +1,7 @@
 //! Pairs of qubits that are entangled an odd number of times.
 
-ghost use Rattle.std.specs.Prelude.{◌≡◌, ℕ, ◌<◌, ◌≤◌, [], ◌∷◌, ◌++◌, ◌&&◌, false, cond, length, map};
+ghost use Rattle.std.specs.Prelude.{◌≡◌, ℕ, ◌<◌, ◌≤◌, [], ◌∷◌, ◌++◌, ◌&&◌, false, cond, length};
+ghost use Rattle.std.specs.Prelude.{map};
 ghost use Rattle.std.specs.Prelude.{nat_lt, slice_get, unwrap_or, IfOk, OnOk};
 ghost use Rattle.mc_model.specs.Bits.{◌⊻◌, same_pair};
 ghost use Rattle.mc_model.specs.Numbers.{pairs_at, pairs_below};

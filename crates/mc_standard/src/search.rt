@@ -1,9 +1,11 @@
 //! Where a list of commands is out of order, and the use of a rule there.
 
-ghost use Rattle.std.specs.Prelude.{◌≡◌, ◌+◌, ◌-◌, ◌<◌, ◌≤◌, map, take, length, vec_len, IfOk, OnErr, MatchOption, MatchBool};
+ghost use Rattle.std.specs.Prelude.{◌≡◌, ◌+◌, ◌-◌, ◌<◌, ◌≤◌, map, take, length, vec_len, IfOk};
+ghost use Rattle.std.specs.Prelude.{OnErr, MatchOption, MatchBool};
 ghost use Rattle.mc_model.specs.Derivation.{part};
 ghost use Rattle.mc_pattern.specs.Commands.{plain_command};
-ghost use Rattle.mc_standard.specs.Places.{part_at, IsEarly, PassesAt, SettlesAt, IsTidyAt, FollowsAt, StaysSettled, Settles};
+ghost use Rattle.mc_standard.specs.Places.{part_at, IsEarly, PassesAt, SettlesAt, IsTidyAt};
+ghost use Rattle.mc_standard.specs.Places.{FollowsAt, StaysSettled, Settles};
 ghost use Rattle.mc_rules.specs.Settled.{InOrder};
 ghost use Rattle.mc_standard.specs.Uses.{plain_rule, plain_use};
 

@@ -1,11 +1,14 @@
 -- Lines of words without a fault, and the text that they are written as.
-use Rattle.std.proofs.Common.{◌≡◌, ℕ, ◌+◌, List, [], ◌∷◌, ◌++◌, Bool, true, false, ◌&&◌, None, length, drop, refl}
+use Rattle.std.proofs.Common.{◌≡◌, ℕ, ◌+◌, List, [], ◌∷◌, ◌++◌, Bool, true, false, ◌&&◌, None}
+use Rattle.std.proofs.Common.{length, drop, refl}
 use Rattle.std.specs.List.{list_all}
 use Rattle.mc_lex.specs.Lines.{Line, lines_of}
 use Rattle.mc_write.specs.Text.{text_of}
 use Rattle.mc_text.specs.Heads.{head_in, is_end}
-use Rattle.mc_text.specs.Judged.{Words, Lines, Place, Rules, words_of, first_in_line, first_in_section, section_lines, behind_section}
-use Rattle.mc_text.proofs.Written.{is_written_line, items_behind, placed_items, placed_lines, lines_of-text}
+use Rattle.mc_text.specs.Judged.{Words, Lines, Place, Rules, words_of, first_in_line}
+use Rattle.mc_text.specs.Judged.{first_in_section, section_lines, behind_section}
+use Rattle.mc_text.proofs.Written.{is_written_line, items_behind, placed_items, placed_lines}
+use Rattle.mc_text.proofs.Written.{lines_of-text}
 
 -- nothing is against the rest of a line, behind the lines and the words before
 abbrev pub CleanWords : Rules → Lines → Words → Words → Type 0

@@ -1,5 +1,6 @@
 -- How the reading of a section goes on.
-use Rattle.std.proofs.Common.{◌≡◌, List, [], ◌∷◌, ◌++◌, true, false, Option, Some, None, refl, sym, ap, ◌∙◌, append_assoc}
+use Rattle.std.proofs.Common.{◌≡◌, List, [], ◌∷◌, ◌++◌, true, false, Option, Some, None, refl, sym}
+use Rattle.std.proofs.Common.{ap, ◌∙◌, append_assoc}
 use Rattle.std.proofs.lemmas.List.Sums.{fold-append}
 use Rattle.mc_lex.specs.declared.end.TextEnd.{TextEnd}
 use Rattle.mc_lex.specs.Lines.{Line}
@@ -8,7 +9,8 @@ use Rattle.mc_text.specs.declared.head.Head.{Head}
 use Rattle.mc_text.specs.declared.fault.Fault.TheVariants.{TextEnds}
 use Rattle.mc_text.specs.Heads.{head_in, is_end}
 use Rattle.mc_text.specs.Points.{last_head}
-use Rattle.mc_text.specs.Judged.{fault, Words, Lines, Place, Rules, words_of, first_in_line, first_in_section, section_lines, behind_section}
+use Rattle.mc_text.specs.Judged.{fault, Words, Lines, Place, Rules, words_of, first_in_line}
+use Rattle.mc_text.specs.Judged.{first_in_section, section_lines, behind_section}
 use Rattle.mc_text.specs.Stops.{IsEnd}
 use Rattle.mc_text.specs.Takes.{TakesLine, StopsInLine}
 use Rattle.mc_text.proofs.Ends.{ends_first}

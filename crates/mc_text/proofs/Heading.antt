@@ -15,8 +15,10 @@ use Rattle.mc_text.specs.declared.form.Behind.{Behind}
 use Rattle.mc_text.specs.declared.point.Point.{Point}
 use Rattle.mc_text.specs.Heads.{is_word}
 use Rattle.mc_text.specs.Points.{point_of}
-use Rattle.mc_text.specs.Judged.{Judgement, fault, Words, Lines, Place, placed, or_later, first_in_line}
-use Rattle.mc_text.specs.Headers.{first_in_header, form_judge, form_lacks, form_rules, form_of, header_rules, half_by}
+use Rattle.mc_text.specs.Judged.{Judgement, fault, Words, Lines, Place, placed, or_later}
+use Rattle.mc_text.specs.Judged.{first_in_line}
+use Rattle.mc_text.specs.Headers.{first_in_header, form_judge, form_lacks, form_rules, form_of}
+use Rattle.mc_text.specs.Headers.{header_rules, half_by}
 use Rattle.mc_text.specs.Headers.{version_behind, half_behind, Says, IsBehind}
 use Rattle.mc_text.specs.Stops.{IsStop}
 use Rattle.mc_text.specs.Takes.{TakesWord, TakesEnd, StopsAtWord, StopsAtEnd}

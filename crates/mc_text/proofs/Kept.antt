@@ -1,6 +1,10 @@
 -- What lines hold, with one more word and with one more line: what a kind of section keeps goes on.
-use Rattle.std.proofs.Common.{◌≡◌, ℕ, zero, suc, ◌+◌, ◌<◌, ◌≤◌, List, [], ◌∷◌, ◌++◌, Bool, true, false, not, ◌&&◌, Option, Some, None, length, map, fold, min, refl, sym, ap, ◌∙◌, append_assoc, length-append, arith, ◌==◌, nat_lt, ne_eqb, lt-ltb, if◌then◌else◌, inl, inr, codes}
-use Rattle.std.specs.List.{flat_map, filter_map, sum_by, position, position_or_len, slice_get, list_all}
+use Rattle.std.proofs.Common.{◌≡◌, ℕ, zero, suc, ◌+◌, ◌<◌, ◌≤◌, List, [], ◌∷◌, ◌++◌, Bool, true}
+use Rattle.std.proofs.Common.{false, not, ◌&&◌, Option, Some, None, length, map, fold, min, refl}
+use Rattle.std.proofs.Common.{sym, ap, ◌∙◌, append_assoc, length-append, arith, ◌==◌, nat_lt}
+use Rattle.std.proofs.Common.{ne_eqb, lt-ltb, if◌then◌else◌, inl, inr, codes}
+use Rattle.std.specs.List.{flat_map, filter_map, sum_by, position, position_or_len, slice_get}
+use Rattle.std.specs.List.{list_all}
 use Rattle.std.proofs.lemmas.Bool.{cases_eq, eq-eqb, ltb-true}
 use Rattle.std.proofs.lemmas.Bool.Decides.{nat_tests}
 use Rattle.std.proofs.lemmas.List.{append-nil, map-append}
@@ -16,7 +20,8 @@ use Rattle.mc_text.specs.Heads.{is_word, head_of}
 use Rattle.mc_text.specs.Points.{first_point, mark_of, next_point, point_of, last_head}
 use Rattle.mc_text.specs.Judged.{Words, Lines}
 use Rattle.mc_text.specs.Rules.{number_in, AreNumbers}
-use Rattle.mc_text.specs.Lists.{names_in, names_at, added, operand_at, next_operand, operands_at, begun, count_of, next_count, onto_open, open_list}
+use Rattle.mc_text.specs.Lists.{names_in, names_at, added, operand_at, next_operand, operands_at}
+use Rattle.mc_text.specs.Lists.{begun, count_of, next_count, onto_open, open_list}
 use Rattle.mc_text.proofs.Going.{head_at, not_first}
 use Rattle.mc_text.proofs.Numbers.{held-place, place-held}
 

@@ -1,5 +1,7 @@
 -- Lists of distinct names, and the numbers of their names.
-use Rattle.std.proofs.Common.{◌≡◌, ℕ, zero, suc, ◌+◌, ◌<◌, List, [], ◌∷◌, All, Bool, true, false, ◌&&◌, ◌||◌, Some, length, map, Decides, refl, sym, subst, ap, ◌∙◌, arith, nat_eq, get_or, cond, count_by, inl, inr}
+use Rattle.std.proofs.Common.{◌≡◌, ℕ, zero, suc, ◌+◌, ◌<◌, List, [], ◌∷◌, All, Bool, true, false}
+use Rattle.std.proofs.Common.{◌&&◌, ◌||◌, Some, length, map, Decides, refl, sym, subst, ap, ◌∙◌}
+use Rattle.std.proofs.Common.{arith, nat_eq, get_or, cond, count_by, inl, inr}
 use Rattle.std.specs.List.{IsDistinct, AllByRecursion, list_any, list_all}
 use Rattle.std.proofs.lemmas.Bool.{eq-eqb, ne_eqb, cases_order, true≢false}
 use Rattle.std.proofs.lemmas.Bool.Decides.{Decides-eqb}

@@ -1,11 +1,13 @@
 -- Sections without a fault.
-use Rattle.std.proofs.Common.{◌≡◌, List, [], ◌∷◌, ◌++◌, Bool, true, false, Option, Some, None, fold, refl}
+use Rattle.std.proofs.Common.{◌≡◌, List, [], ◌∷◌, ◌++◌, Bool, true, false, Option, Some, None, fold}
+use Rattle.std.proofs.Common.{refl}
 use Rattle.mc_lex.specs.Lines.{Line}
 use Rattle.mc_text.specs.declared.head.Head.{Head}
 use Rattle.mc_text.specs.declared.head.Head.TheVariants.{End}
 use Rattle.mc_text.specs.Heads.{head_in, is_end}
 use Rattle.mc_text.specs.Points.{last_head}
-use Rattle.mc_text.specs.Judged.{Judgement, Words, Lines, Place, Rules, or_later, words_of, first_in_line, first_in_section, is_last, section_lines}
+use Rattle.mc_text.specs.Judged.{Judgement, Words, Lines, Place, Rules, or_later, words_of}
+use Rattle.mc_text.specs.Judged.{first_in_line, first_in_section, is_last, section_lines}
 
 end_head : (h : Option Head) → is_end h ≡ true → h ≡ Some End
 end_head None e = absurd (cc e)

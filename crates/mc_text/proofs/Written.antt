@@ -1,11 +1,13 @@
 -- The lines of a text that was written are the lines that were written.
-use Rattle.std.proofs.Common.{◌≡◌, ℕ, suc, ◌+◌, List, [], ◌∷◌, ◌++◌, Bool, true, false, not, ◌&&◌, ◌||◌, length, refl, ◌∙◌, append_assoc, arith, ◌==◌}
+use Rattle.std.proofs.Common.{◌≡◌, ℕ, suc, ◌+◌, List, [], ◌∷◌, ◌++◌, Bool, true, false, not, ◌&&◌}
+use Rattle.std.proofs.Common.{◌||◌, length, refl, ◌∙◌, append_assoc, arith, ◌==◌}
 use Rattle.std.specs.List.{list_all, prefix_len}
 use Rattle.std.proofs.Math.Seq.{take-length}
 use Rattle.std.proofs.lemmas.Bool.Decides.{nat_tests}
 use Rattle.std.proofs.lemmas.List.Folds.{list_all-append}
 use Rattle.mc_lex.specs.Bytes.{is_feed, is_hash, is_blank, is_word_byte}
-use Rattle.mc_lex.specs.Lines.{Item, word, Line, tokens, starts_word, visible, parts_of, with_items, numbered, lines_of}
+use Rattle.mc_lex.specs.Lines.{Item, word, Line, tokens, starts_word, visible, parts_of, with_items}
+use Rattle.mc_lex.specs.Lines.{numbered, lines_of}
 use Rattle.mc_write.specs.Text.{words_behind, line_text, text_of}
 use Rattle.mc_text.specs.Judged.{Words, Lines}
 

@@ -1,7 +1,15 @@
 -- The codes of broken rules.
 use Rattle.std.specs.Prelude.{ℕ}
 use Rattle.mc_text.specs.declared.fault.Fault.{Fault}
-use Rattle.mc_text.specs.declared.fault.Fault.TheVariants.{StrayByte, NoKind, KindNotTaken, NotVersion, NotFixed, LineEnds, Surplus, NotName, NotAngle, NotNumber, DefinedTwice, NotDefined, Measured, SameOperand, EdgeTwice, NotMeasured, ListedTwice, OutputsLack, TextEnds, BehindEnd, OtherRow, RowTwice, NoSecond, BitsDiffer, FixedTwice, SizesDiffer, StepDiffers}
+use Rattle.mc_text.specs.declared.fault.Fault.TheVariants.{StrayByte, NoKind, KindNotTaken}
+use Rattle.mc_text.specs.declared.fault.Fault.TheVariants.{NotVersion, NotFixed, LineEnds, Surplus}
+use Rattle.mc_text.specs.declared.fault.Fault.TheVariants.{NotName, NotAngle, NotNumber}
+use Rattle.mc_text.specs.declared.fault.Fault.TheVariants.{DefinedTwice, NotDefined, Measured}
+use Rattle.mc_text.specs.declared.fault.Fault.TheVariants.{SameOperand, EdgeTwice, NotMeasured}
+use Rattle.mc_text.specs.declared.fault.Fault.TheVariants.{ListedTwice, OutputsLack, TextEnds}
+use Rattle.mc_text.specs.declared.fault.Fault.TheVariants.{BehindEnd, OtherRow, RowTwice, NoSecond}
+use Rattle.mc_text.specs.declared.fault.Fault.TheVariants.{BitsDiffer, FixedTwice, SizesDiffer}
+use Rattle.mc_text.specs.declared.fault.Fault.TheVariants.{StepDiffers}
 
 abbrev pub code_of : Fault → ℕ
 code_of StrayByte = 2

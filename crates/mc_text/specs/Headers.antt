@@ -1,6 +1,7 @@
 -- The header of a section: a line of its kind and its version, and where that is permitted of the
 -- word `turn` and the number of steps in a turn.
-use Rattle.std.specs.Prelude.{◌≡◌, ℕ, List, [], ◌∷◌, Bool, true, false, not, ◌&&◌, ◌||◌, nat_eq, ◌==◌, ◌⊎◌}
+use Rattle.std.specs.Prelude.{◌≡◌, ℕ, List, [], ◌∷◌, Bool, true, false, not, ◌&&◌, ◌||◌, nat_eq}
+use Rattle.std.specs.Prelude.{◌==◌, ◌⊎◌}
 use Rattle.std.specs.Prelude.{codes, if◌then◌else◌, Option, None, Some}
 use Rattle.std.specs.Option.{option_map}
 use Rattle.mc_lex.specs.declared.kind.Kind.{Kind}

@@ -1,8 +1,11 @@
 -- The record words at the heads of lines.
-use Rattle.std.specs.Prelude.{ℕ, List, [], ◌∷◌, Bool, true, false, nat_eq, find, codes, Option, None, Some}
+use Rattle.std.specs.Prelude.{ℕ, List, [], ◌∷◌, Bool, true, false, nat_eq, find, codes, Option}
+use Rattle.std.specs.Prelude.{None, Some}
 use Rattle.std.specs.Cmp.Lexicographic.{pointwise}
 use Rattle.mc_text.specs.declared.head.Head.{Head}
-use Rattle.mc_text.specs.declared.head.Head.TheVariants.{In, Plus, Out, End, J, Cz, N, E, M, X, Z, O, Depth, G, Y, B, U, L, H, S, Sdg, T, Tdg, Cx, Swap, Ccx}
+use Rattle.mc_text.specs.declared.head.Head.TheVariants.{In, Plus, Out, End, J, Cz, N, E, M, X, Z}
+use Rattle.mc_text.specs.declared.head.Head.TheVariants.{O, Depth, G, Y, B, U, L, H, S, Sdg, T, Tdg}
+use Rattle.mc_text.specs.declared.head.Head.TheVariants.{Cx, Swap, Ccx}
 
 -- whether two words are the same
 abbrev pub is_word : List ℕ → List ℕ → Bool

@@ -1,5 +1,6 @@
 -- What stands in the lines with some record words, and in the lists of a line.
-use Rattle.std.specs.Prelude.{ℕ, ◌+◌, List, [], ◌∷◌, ◌++◌, Bool, is_some, ◌==◌, fold, flat_map, filter_map, sum_by, slice_get, if◌then◌else◌, Option, None, Some}
+use Rattle.std.specs.Prelude.{ℕ, ◌+◌, List, [], ◌∷◌, ◌++◌, Bool, is_some, ◌==◌, fold, flat_map}
+use Rattle.std.specs.Prelude.{filter_map, sum_by, slice_get, if◌then◌else◌, Option, None, Some}
 use Rattle.mc_text.specs.declared.head.Head.{Head}
 use Rattle.mc_text.specs.declared.point.Point.{Point}
 use Rattle.mc_text.specs.Heads.{head_of}

@@ -1,5 +1,6 @@
 -- What stands before a word.
-use Rattle.std.specs.Prelude.{ℕ, ◌+◌, List, ◌==◌, nat_lt, codes, fold, if◌then◌else◌, Option, None, Some}
+use Rattle.std.specs.Prelude.{ℕ, ◌+◌, List, ◌==◌, nat_lt, codes, fold, if◌then◌else◌, Option, None}
+use Rattle.std.specs.Prelude.{Some}
 use Rattle.std.specs.Option.{option_or}
 use Rattle.mc_text.specs.declared.head.Head.{Head}
 use Rattle.mc_text.specs.declared.point.Mark.{Mark}

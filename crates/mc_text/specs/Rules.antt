@@ -1,11 +1,13 @@
 -- Rules and limits of words, in the order in which they are judged.
-use Rattle.std.specs.Prelude.{◌≡◌, ℕ, List, [], ◌∷◌, Bool, true, not, nat_le, length, map, unwrap_or, if◌then◌else◌, Option, None, Some}
+use Rattle.std.specs.Prelude.{◌≡◌, ℕ, List, [], ◌∷◌, Bool, true, not, nat_le, length, map}
+use Rattle.std.specs.Prelude.{unwrap_or, if◌then◌else◌, Option, None, Some}
 use Rattle.std.specs.List.{list_all}
 use Rattle.mc_model.specs.Names.{is_name, is_held, place_of}
 use Rattle.mc_angle.specs.Angle.{is_angle}
 use Rattle.mc_angle.specs.Number.{is_number}
 use Rattle.mc_text.specs.declared.fault.Fault.{Fault}
-use Rattle.mc_text.specs.declared.fault.Fault.TheVariants.{NotFixed, NotName, NotAngle, NotNumber, DefinedTwice, NotDefined, ListedTwice}
+use Rattle.mc_text.specs.declared.fault.Fault.TheVariants.{NotFixed, NotName, NotAngle, NotNumber}
+use Rattle.mc_text.specs.declared.fault.Fault.TheVariants.{DefinedTwice, NotDefined, ListedTwice}
 use Rattle.mc_text.specs.Heads.{is_word}
 use Rattle.mc_text.specs.Judged.{Judgement, fault, limit}
 

@@ -3,16 +3,8 @@
 ghost use Rattle.std.specs.Prelude.{◌≡◌, ◌++◌, ℕ, OnOk, Some};
 ghost use Rattle.mc_lex.specs.declared.kind.Kind.{Kind as PlainKind};
 ghost use Rattle.mc_write.specs.Text.{line_text, words_behind};
-ghost use Rattle.mc_text.specs.Headers.{
-  header_words,
-  version_word,
-  turn_words,
-  kind_in,
-  version_in,
-  half_in,
-  IsVersion,
-  IsHalf,
-};
+ghost use Rattle.mc_text.specs.Headers.{header_words, version_word, turn_words, kind_in};
+ghost use Rattle.mc_text.specs.Headers.{version_in, half_in, IsVersion, IsHalf};
 
 use mc_lex::Kind;
 use mc_model::Memory;

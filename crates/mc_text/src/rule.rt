@@ -1,11 +1,13 @@
 //! Words that several kinds of section judge in the same way.
 
-ghost use Rattle.std.specs.Prelude.{◌≡◌, ◌++◌, ◌∷◌, [], ◌<◌, ◌≤◌, List, ℕ, IsTrue, length, None, Some, OnOk, IfOk, IfErr, OnErr, true};
+ghost use Rattle.std.specs.Prelude.{◌≡◌, ◌++◌, ◌∷◌, [], ◌<◌, ◌≤◌, List, ℕ, IsTrue, length, None};
+ghost use Rattle.std.specs.Prelude.{Some, OnOk, IfOk, IfErr, OnErr, true};
 ghost use Rattle.mc_model.specs.Names.{is_name, place_of};
 ghost use Rattle.mc_model.specs.Steps.{is_permitted};
 ghost use Rattle.mc_angle.specs.Angle.{angle_of};
 ghost use Rattle.mc_angle.specs.Number.{number_of};
-ghost use Rattle.mc_text.specs.Rules.{new_name, known_name, listed_name, fixed_word, angle_word, number_word, AreNumbers};
+ghost use Rattle.mc_text.specs.Rules.{new_name, known_name, listed_name, fixed_word, angle_word};
+ghost use Rattle.mc_text.specs.Rules.{number_word, AreNumbers};
 ghost use Rattle.mc_text.specs.Stops.{IsStop};
 
 use crate::fault::{Fault, Stop};

@@ -1,5 +1,6 @@
 -- What the loop over the gates keeps.
-use Rattle.std.proofs.Common.{◌≡◌, ℕ, zero, suc, ◌+◌, ◌-◌, ◌*◌, ◌<◌, ◌≤◌, cond, List, [], ◌∷◌, ◌++◌}
+use Rattle.std.proofs.Common.{◌≡◌, ℕ, zero, suc, ◌+◌, ◌-◌, ◌*◌, ◌<◌, ◌≤◌, cond, List, []}
+use Rattle.std.proofs.Common.{◌∷◌, ◌++◌}
 use Rattle.std.proofs.Common.{refl, sym, ◌∙◌, ap, ap₂, arith, append_assoc, append-nil, length}
 use Rattle.std.proofs.Common.{length-append, get_or, set, length-set, get_or-set_same}
 use Rattle.std.proofs.Common.{get_or-set_other, map, drop}

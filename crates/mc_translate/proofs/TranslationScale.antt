@@ -1,7 +1,9 @@
 -- How many preparations and measurements a translation has.
-use Rattle.std.proofs.Common.{◌≡◌, ℕ, zero, suc, ◌+◌, ◌-◌, List, [], ◌∷◌, ◌++◌, length, refl, ap, ◌∙◌, arith}
+use Rattle.std.proofs.Common.{◌≡◌, ℕ, zero, suc, ◌+◌, ◌-◌, List, [], ◌∷◌, ◌++◌, length, refl, ap}
+use Rattle.std.proofs.Common.{◌∙◌, arith}
 use Rattle.std.proofs.lemmas.List.Elements.{filter_map-append}
-use Rattle.mc_model.specs.Pattern.{Command, Gate, J, CZ, Circuit, wires, measured_by, measured_order}
+use Rattle.mc_model.specs.Pattern.{Command, Gate, J, CZ, Circuit, wires, measured_by}
+use Rattle.mc_model.specs.Pattern.{measured_order}
 use Rattle.mc_model.specs.Amplitude.{halvings, j_count, pattern_scale, circuit_scale}
 use Rattle.mc_model.specs.Valid.{prepared}
 use Rattle.mc_model.specs.Translation.{moved, translated, preparations, translation}

@@ -1,6 +1,7 @@
 //! What is proved of translations (Danos, Kashefi and Panangaden 2007).
 
-ghost use Rattle.mc_translate.specs.Laws.{TranslationCounts, TranslationKeepsTable, TranslationScale};
+ghost use Rattle.mc_translate.specs.Laws.{TranslationCounts, TranslationKeepsTable};
+ghost use Rattle.mc_translate.specs.Laws.{TranslationScale};
 ghost use Rattle.mc_translate.specs.Laws.{TranslationsAreValid, TranslationsHaveCausalFlows};
 ghost use Rattle.mc_translate.specs.Laws.{TranslationsHaveFlows, TranslationsHaveNoConstants};
 

@@ -1,6 +1,7 @@
 //! Names by their numbers.
 
-ghost use Rattle.std.specs.Prelude.{◌≡◌, ◌++◌, ◌∷◌, ◌-◌, ◌<◌, ◌≤◌, OnOk, All, length, map, take, drop};
+ghost use Rattle.std.specs.Prelude.{◌≡◌, ◌++◌, ◌∷◌, ◌-◌, ◌<◌, ◌≤◌, OnOk, All, length, map, take};
+ghost use Rattle.std.specs.Prelude.{drop};
 ghost use Rattle.mc_write.specs.Text.{words_behind};
 ghost use Rattle.mc_write.specs.Named.{name_at};
 

@@ -1,4 +1,5 @@
-use Rattle.std.proofs.Common.{arith, ℕ, ◌≡◌, ◌≢◌, ◌^◌, ◌<◌, ◌≤◌, ◌∙◌, sym, ap, length, below_more}
+use Rattle.std.proofs.Common.{arith, ℕ, ◌≡◌, ◌≢◌, ◌^◌, ◌<◌, ◌≤◌, ◌∙◌, sym, ap, length}
+use Rattle.std.proofs.Common.{below_more}
 use Rattle.std.proofs.Common.{get_or-set_same, get_or-set_other, w64, FitsSigned, ◌+ℤ◌, ℤ}
 use lib.IntN.{neg_ℤ}
 use Rattle.std.specs.Int.RustNames.{unsigned_abs}

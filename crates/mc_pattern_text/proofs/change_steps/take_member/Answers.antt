@@ -1,5 +1,6 @@
 use Rattle.std.proofs.Common.{arith}
-use Rattle.mc_pattern_text.proofs.ChangeMembers.{member-twice, member-late, member-taken, place-late, place-done}
+use Rattle.mc_pattern_text.proofs.ChangeMembers.{member-twice, member-late, member-taken}
+use Rattle.mc_pattern_text.proofs.ChangeMembers.{place-late, place-done}
 use Rattle.mc_pattern_text.proofs.change_steps.take_member.Goals as goal
 
 pub returns-then-has-clause-err : goal.returns-then-has-clause-err

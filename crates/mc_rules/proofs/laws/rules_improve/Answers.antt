@@ -1,4 +1,5 @@
-use Rattle.mc_rules.proofs.NearerUses.{passing_improves, settling_two_improves, settling_one_improves}
+use Rattle.mc_rules.proofs.NearerUses.{passing_improves, settling_two_improves}
+use Rattle.mc_rules.proofs.NearerUses.{settling_one_improves}
 use Rattle.mc_rules.proofs.UsesLeft.{improvement_falls}
 use Rattle.mc_rules.proofs.laws.rules_improve.Goals as goal
 

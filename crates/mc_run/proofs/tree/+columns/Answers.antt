@@ -1,4 +1,5 @@
-use Rattle.std.proofs.Common.{rules, ◌≡◌, ℕ, ◌+◌, ◌-◌, ◌*◌, ◌^◌, ◌<◌, ◌≤◌, true, false, ℤ, List, []}
+use Rattle.std.proofs.Common.{rules, ◌≡◌, ℕ, ◌+◌, ◌-◌, ◌*◌, ◌^◌, ◌<◌, ◌≤◌, true, false, ℤ}
+use Rattle.std.proofs.Common.{List, []}
 use Rattle.std.proofs.Common.{◌∷◌, ◌++◌, length, map, take, drop, slice_set, sym, subst, ap, ◌∙◌}
 use Rattle.std.proofs.Common.{arith}
 use Rattle.std.specs.Prelude.{All}
@@ -19,7 +20,8 @@ use Rattle.mc_run.proofs.Turns.{obeys}
 use Rattle.mc_run.proofs.CountsAlong.{listed_few}
 use Rattle.mc_run.proofs.CommandsLeft.{command_ready, command_low, command_next, few_live}
 use Rattle.mc_run.proofs.CommandsLeft.{live_over, output_unmeasured}
-use Rattle.mc_run.proofs.PartedBranches.{first_command, no_command, restored, at_other, columns_none}
+use Rattle.mc_run.proofs.PartedBranches.{first_command, no_command, restored, at_other}
+use Rattle.mc_run.proofs.PartedBranches.{columns_none}
 use Rattle.mc_run.proofs.PartedBranches.{columns_straight, columns_parted}
 use Rattle.mc_run.proofs.tree.+columns.Goals as goal
 
@@ -574,7 +576,9 @@ columns-requires-in-len1-up-2 g t c κs within =
                               (subst (λ es. IsStepped ring g.R.Ring.IsElement
                               (command_step ring.half c.in_ok-other-in-len1-up.other.live.items
                               (bits_of c.set-in-len1-up.new.self) command)
-                              (map seen es) (map seen c.in_ok-high-in-len1-up.high.entries.items)) c.in_ok-other-in-len1-up.ensures.entries c.in_ok-high-in-len1-up.ensures.stepped))),
+                              (map seen es) (map seen c.in_ok-high-in-len1-up.high.entries.items))
+                              c.in_ok-other-in-len1-up.ensures.entries
+                              c.in_ok-high-in-len1-up.ensures.stepped))),
                         ),
                       ),
                     ),

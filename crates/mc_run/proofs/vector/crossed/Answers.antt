@@ -1,4 +1,5 @@
-use Rattle.std.proofs.Common.{◌≡◌, ℕ, ◌+◌, ◌*◌, ◌^◌, ◌<◌, ◌≤◌, true, false, ℤ, List, length, map}
+use Rattle.std.proofs.Common.{◌≡◌, ℕ, ◌+◌, ◌*◌, ◌^◌, ◌<◌, ◌≤◌, true, false, ℤ, List, length}
+use Rattle.std.proofs.Common.{map}
 use Rattle.std.proofs.Common.{sym, refl, subst, ap, ap₂, ◌∙◌, arith, rules}
 use Rattle.std.proofs.lemmas.List.{length-map, length-set}
 use Rattle.mc_run.specs.Exact.{Exact, exact}
@@ -8,7 +9,8 @@ use Rattle.mc_run.specs.declared.step.Step.TheVariants.{J}
 use Rattle.mc_run.proofs.Turns.{obeys}
 use Rattle.mc_run.proofs.Pairs.{pair_of, pair_below}
 use Rattle.mc_run.proofs.Passes.{Passed, pass_begins, pass_over}
-use Rattle.mc_run.proofs.WrittenEntries.{offset_fits, within_pairs, read_pair, write_pair, made_first}
+use Rattle.mc_run.proofs.WrittenEntries.{offset_fits, within_pairs, read_pair, write_pair}
+use Rattle.mc_run.proofs.WrittenEntries.{made_first}
 use Rattle.mc_run.proofs.WrittenEntries.{made_second, pair_low}
 use Rattle.mc_run.proofs.vector.crossed.Goals as goal
 

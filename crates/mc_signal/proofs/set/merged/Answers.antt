@@ -1,4 +1,5 @@
-use Rattle.std.proofs.Common.{◌≡◌, ◌<◌, ◌≤◌, get_or, length, inl, inr, arith, Less, Equal, Greater, ◌⊎◌}
+use Rattle.std.proofs.Common.{◌≡◌, ◌<◌, ◌≤◌, get_or, length, inl, inr, arith, Less, Equal, Greater}
+use Rattle.std.proofs.Common.{◌⊎◌}
 use Rattle.std.proofs.lemmas.Cmp.{ranked}
 use Rattle.mc_signal.proofs.Merging.{merge_left, merge_right, merge_both, merge_end}
 use Rattle.mc_signal.proofs.set.merged.Goals.{then-merge-test+else-j-right, else-merge-test}

@@ -6,4 +6,5 @@ use Rattle.mc_standard.proofs.listing.add_measures.Given as goal
 abbrev pub invariant-measures : goal.invariant-measures
 invariant-measures g l =
     map (plain_command {h = g.row.H}) l.commands.items
-    ≡ map (plain_command {h = g.row.H}) l.initial.commands.items ++ map (plain_measure {h = g.row.H}) (take l.measure-index l.measures)
+    ≡ map (plain_command {h = g.row.H}) l.initial.commands.items
+    ++ map (plain_measure {h = g.row.H}) (take l.measure-index l.measures)

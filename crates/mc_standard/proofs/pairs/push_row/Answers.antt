@@ -1,4 +1,5 @@
-use Rattle.std.proofs.Common.{◌++◌, [], ◌∷◌, Bool, List, cond, map, sym, ◌∙◌, ap, ap₂, append-nil, append_assoc}
+use Rattle.std.proofs.Common.{◌++◌, [], ◌∷◌, Bool, List, cond, map, sym, ◌∙◌, ap, ap₂, append-nil}
+use Rattle.std.proofs.Common.{append_assoc}
 use Rattle.mc_model.specs.Numbers.{pairs_at}
 use Rattle.mc_model.specs.Pattern.{Command, Ent}
 use Rattle.mc_standard.specs.OddPairs.{is_odd}

@@ -4,7 +4,9 @@ use Rattle.mc_model.specs.Pattern.{FixX}
 use Rattle.mc_pattern.specs.Commands.{plain_command}
 use Rattle.mc_standard.proofs.PickedRules.{swaps, missed_x, missed_edge, missed_measure}
 use Rattle.mc_standard.proofs.pick.pass_x.Goals as goal
-use Rattle.mc_standard.proofs.pick.pass_x.Goals.{in_default-via-in-Ent-2+else-j-q, in_default-via-in-Meas+else-i-q-2, in_default-via-in_default}
+use Rattle.mc_standard.proofs.pick.pass_x.Goals.{in_default-via-in-Ent-2+else-j-q}
+use Rattle.mc_standard.proofs.pick.pass_x.Goals.{in_default-via-in-Meas+else-i-q-2}
+use Rattle.mc_standard.proofs.pick.pass_x.Goals.{in_default-via-in_default}
 
 pub returns-in_ok-copy-in-Ent : goal.returns-in_ok-copy-in-Ent
 returns-in_ok-copy-in-Ent g c = (

@@ -4,7 +4,9 @@ use Rattle.mc_model.specs.Pattern.{FixZ}
 use Rattle.mc_pattern.specs.Commands.{plain_command}
 use Rattle.mc_standard.proofs.PickedRules.{swaps, missed_z, missed_edge, missed_measure}
 use Rattle.mc_standard.proofs.pick.pass_z.Goals as goal
-use Rattle.mc_standard.proofs.pick.pass_z.Goals.{in_default-via-in-Ent-2+else-j-q, in_default-via-in-Meas+else-i-q-2, in_default-via-in_default}
+use Rattle.mc_standard.proofs.pick.pass_z.Goals.{in_default-via-in-Ent-2+else-j-q}
+use Rattle.mc_standard.proofs.pick.pass_z.Goals.{in_default-via-in-Meas+else-i-q-2}
+use Rattle.mc_standard.proofs.pick.pass_z.Goals.{in_default-via-in_default}
 
 pub returns-in-Ent : goal.returns-in-Ent
 returns-in-Ent g c = rw (c.exchange.ensures.rule, c.exchange.ensures.change)

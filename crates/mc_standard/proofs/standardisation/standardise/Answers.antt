@@ -1,7 +1,8 @@
 use Rattle.std.proofs.Common.{length, sym, ◌∙◌, ap, subst, arith}
 use Rattle.mc_standard.specs.Running.{AllBelow}
 use Rattle.mc_standard.specs.StandardForms.{IsStandardForm}
-use Rattle.mc_standard.proofs.StandardPatterns.{standard_pattern, form_made, form_of, operands_below}
+use Rattle.mc_standard.proofs.StandardPatterns.{standard_pattern, form_made, form_of}
+use Rattle.mc_standard.proofs.StandardPatterns.{operands_below}
 use Rattle.mc_standard.proofs.standardisation.standardise.Goals as goal
 
 pub pass_over-requires : goal.pass_over-requires

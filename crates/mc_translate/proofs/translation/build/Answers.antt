@@ -3,7 +3,8 @@ use Rattle.std.proofs.lemmas.List.{drop_all}
 use Rattle.mc_circuit.specs.Gates.{plain_gate}
 use Rattle.mc_pattern.proofs.Lent.{come_back}
 use Rattle.mc_translate.specs.Steps.{qubit_of}
-use Rattle.mc_translate.proofs.GatesLeft.{left_at_start, left_from, left_behind, left_ready, left_none}
+use Rattle.mc_translate.proofs.GatesLeft.{left_at_start, left_from, left_behind, left_ready}
+use Rattle.mc_translate.proofs.GatesLeft.{left_none}
 use Rattle.mc_translate.proofs.Outputs.{outputs_listed}
 use Rattle.mc_translate.proofs.translation.build.Goals as goal
 

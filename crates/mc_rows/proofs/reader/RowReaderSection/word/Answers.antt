@@ -66,6 +66,7 @@ returns-in-Err-take_member-clause-err g c = λ before here m e.
     (g.K.Rows.holds c.args.self.now.kind) c.args.self.now.row before here c.args.point c.args.word.now
     (role_is (g.K.Rows.kind c.args.self.now.kind).shape c.args.point
     c.shape.result c.role.result role.Member c.shape.ensures c.role.ensures c.in-Member.is) m e in
-    rw same (c.in-Err-take_member.ensures.err _ _ m.held_rows (members_of (g.K.Rows.kind c.args.self.now.kind) c.args.self.now.names.now
+    rw same (c.in-Err-take_member.ensures.err _ _ m.held_rows
+    (members_of (g.K.Rows.kind c.args.self.now.kind) c.args.self.now.names.now
     (g.K.Rows.holds c.args.self.now.kind)
     c.args.self.now.row before here m))

@@ -3,7 +3,8 @@ use Rattle.std.proofs.lemmas.Bool.{true≢false}
 use Rattle.std.proofs.lemmas.List.{length-map}
 use Rattle.mc_pattern.specs.Commands.{plain_command}
 use Rattle.mc_standard.specs.Uses.{plain_rule, plain_use}
-use Rattle.mc_standard.proofs.RewriterAdvances.{IsNext, IsLast, next_by_passing, next_by_settling, last_use}
+use Rattle.mc_standard.proofs.RewriterAdvances.{IsNext, IsLast, next_by_passing, next_by_settling}
+use Rattle.mc_standard.proofs.RewriterAdvances.{last_use}
 use Rattle.mc_standard.proofs.RuleTypes.{step_typed}
 use Rattle.mc_standard.proofs.rewriter.Rewriter.step.Given.{Over}
 use Rattle.mc_standard.proofs.rewriter.Rewriter.step.Goals as goal
