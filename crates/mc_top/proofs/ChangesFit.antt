@@ -1,5 +1,6 @@
 -- The change of outcomes that shifting makes has the measured qubits of the shifted form in order.
-use Rattle.std.proofs.Common.{◌≡◌, ℕ, zero, suc, true, false, ◌||◌, List, [], ◌∷◌, ◌++◌, refl, sym, ◌∙◌, ap, append_assoc, take, Some}
+use Rattle.std.proofs.Common.{◌≡◌, ℕ, zero, suc, true, false, ◌||◌, List, [], ◌∷◌, ◌++◌, refl, sym}
+use Rattle.std.proofs.Common.{◌∙◌, ap, append_assoc, take, Some}
 use Rattle.std.specs.Prelude.{nat_eq, slice_get}
 use Rattle.std.proofs.lemmas.Bool.{eq-eqb, ne_eqb, eqb-true, cases_eq, or_cases, or_left, or_right}
 use Rattle.std.proofs.lemmas.List.Folds.{list_any-append}
@@ -9,7 +10,8 @@ use Rattle.mc_model.specs.Numbers.{is_member}
 use Rattle.mc_model.specs.Bits.{Bits, replaced}
 use Rattle.mc_model.specs.Pattern.{Command, Prep, Ent, Meas, FixX, FixZ, Pattern, measured_order}
 use Rattle.mc_model.specs.Valid.{AllDone, IsValidPattern, measured}
-use Rattle.mc_model.specs.Shift.{ChangeRow, change_of, IsShifted, IsShiftedForm, qubits_of, AreEarlier, IsChangeOf}
+use Rattle.mc_model.specs.Shift.{ChangeRow, change_of, IsShifted, IsShiftedForm, qubits_of}
+use Rattle.mc_model.specs.Shift.{AreEarlier, IsChangeOf}
 use Rattle.mc_shift.proofs.NewOutcomes.{RowsFit, rows_fit}
 
 done_at : (done : Bits) (qs : List ℕ) → AllDone done qs → (q : ℕ) → is_member qs q ≡ true →

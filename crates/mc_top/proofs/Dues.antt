@@ -1,112 +1,160 @@
--- What is due for bytes within the limit.
-use Rattle.std.proofs.Common.{◌≡◌, ◌⊎◌, ℕ, ◌+◌, ◌<◌, ◌≤◌, List, length, map, true, false, nat_lt, Option, Some, None, Result, Ok, Err, IfOk, IfErr, refl, sym, subst, ap, inl, inr, ◌∙◌, arith}
-use Rattle.std.specs.Prelude.{IfSome}
-use Rattle.std.specs.Prelude.{nat_eq}
-use Rattle.std.proofs.lemmas.List.{length-map}
+-- What is due for a document, and what is given.
+use Rattle.std.proofs.Common.{◌≡◌, ℕ, ◌<◌, ◌≤◌, List, length, map, Bool, true, false, nat_lt}
+use Rattle.std.proofs.Common.{Option, Some, None, Result, Ok, Err, IfOk, IfErr, OnOk, refl, subst}
+use Rattle.std.proofs.Common.{sym, ap, ◌∙◌, arith}
+use Rattle.std.proofs.Common.{IsTrue}
+use Rattle.std.specs.Prelude.{nat_eq, is_some, IsSomeAnd, MatchOption, ⊤}
+use Rattle.std.specs.Option.{option_map, option_or, option_and_then}
 use Rattle.std.proofs.lemmas.Bool.{eq-eqb}
 use Rattle.std.proofs.lemmas.Bool.Decides.{nat_tests}
-use Rattle.mc_top.specs.Tasks.{Asked}
+use Rattle.std.proofs.lemmas.List.{length-map}
 use Rattle.mc_lex.specs.declared.end.TextEnd.{TextEnd}
 use Rattle.mc_lex.specs.declared.end.TextEnd.TheVariants as end
-use Rattle.mc_model.specs.Pattern.{Circuit, Pattern, wires}
-use Rattle.mc_model.specs.Amplitude.{j_count}
-use Rattle.mc_io.specs.Faults.{Rose}
-use Rattle.mc_top.specs.declared.status.Status.{Status}
-use Rattle.mc_top.specs.declared.status.Status.TheVariants as status
-use Rattle.mc_run.specs.declared.limit.RunEnd.{RunEnd}
-use Rattle.mc_run.specs.declared.limit.RunEnd.TheVariants as run
-use Rattle.mc_model.specs.Shift.{ChangeRow}
+use Rattle.mc_model.specs.Pattern.{Circuit, Pattern}
 use Rattle.mc_pattern.specs.Patterns.{measured_count}
 use Rattle.mc_run.specs.Limits.{branch_limit}
+use Rattle.mc_run.specs.declared.limit.RunEnd.{RunEnd}
 use Rattle.mc_run_text.specs.Runs.{branch_run}
 use Rattle.mc_text.specs.Judged.{Place}
-use Rattle.mc_top.specs.Tasks.{is_one}
-use Rattle.mc_top.specs.Ends.{status_by_end, end_of_run}
-use Rattle.mc_model.specs.declared.memory.Memory.{Memory}
-use Rattle.std.specs.declared.vec.Vec.{Vec}
-use Rattle.std.specs.declared.alloc.Global.{Global}
-use Rattle.mc_top.specs.Serve.{Due, answer, due_branch, due_unless, run_limit, source_of, due_from, Gives, IsStatus, status_of, due_of, due_for, source_limit}
-use Rattle.mc_top.specs.Documents.{Spelled, circuit, pattern}
+use Rattle.mc_model.specs.Translation.{translation}
+use Rattle.mc_pattern_text.specs.Canonical.{pattern_text}
+use Rattle.mc_top.specs.Translate.{due_translation}
+use Rattle.mc_model.specs.Translation.{qubit_count}
+use Rattle.mc_document.specs.Documents.{PlainDocument, circuit_in, pattern_in}
+use Rattle.mc_top.specs.declared.answer.Answer.{Answer}
+use Rattle.mc_top.specs.Branch.{due_outcomes}
+use Rattle.mc_top.specs.Commands.{is_one}
+use Rattle.mc_top.specs.Due.{Due, Gives, IsLimit, due_unless, holding, run_limit}
+use Rattle.mc_top.specs.Run.{MeansBranches, MeansRun, MeansTable, due_branches, due_run, due_table}
+use Rattle.mc_top.specs.Source.{source_in, source_limit, translation_limit, due_from}
 
-pub due_within : (task : Asked) (input : List ℕ) → length input ≤ 8388608 →
-    due_of task input ≡ due_for task input
-due_within task input h =
-    let t : nat_lt 8388608 (length input) ≡ false = grind (arith, nat_tests) in
-    rw t refl
+-- a passed limit is what is due
+pub limit_gives : (given : TextEnd) (limit : Option TextEnd) (due : Due) → IsLimit given limit →
+    Gives (Err given) (due_unless limit due)
+limit_gives (end.Refused code line column) limit due h = rw h refl
+limit_gives (end.Limit which found) limit due h = rw h refl
+limit_gives end.Memory limit due h = tt
 
--- what holds of the bytes that were read holds of those that were left, where they are told
-pub of_told : (left : Option (List ℕ)) (P : List ℕ → Type 0) (bytes : List ℕ) →
-    IfSome left (λ l. bytes ≡ l) → P bytes → IfSome left P
-of_told None P bytes e p = tt
-of_told (Some l) P bytes e p = subst P e p
+-- what is given for the pattern of a document is due for the document
+pub from_source : (half : ℕ) (d : PlainDocument) (text_for : Pattern → List ℕ) (p : Pattern)
+    (given : Result Answer TextEnd) → source_in half d ≡ Some p → source_limit d ≡ None →
+    Gives given (holding (text_for p)) → IsSomeAnd (due_from half d text_for) (Gives given)
+from_source half d text_for p given found few h = rw (found, few) h
+
+pub from_limit : (half : ℕ) (d : PlainDocument) (text_for : Pattern → List ℕ) (given : TextEnd) →
+    IsTrue (is_some (source_in half d)) → IsLimit given (source_limit d) →
+    IsSomeAnd (due_from half d text_for) (Gives (Err given))
+from_limit half d text_for given some h = by_source (source_in half d) some
+  where
+    by_source : (found : Option Pattern) → IsTrue (is_some found) →
+        IsSomeAnd (option_map (λ p. due_unless (source_limit d) (holding (text_for p))) found)
+        (Gives (Err given))
+    by_source None some = absurd (cc some)
+    by_source (Some p) some = limit_gives given (source_limit d) (holding (text_for p)) h
+
+-- what is meant of the pattern of a document
+pub of_source : (half : ℕ) (d : PlainDocument) (p : Pattern) (P : Pattern → Type 0) →
+    source_in half d ≡ Some p → P p → IsSomeAnd (source_in half d) P
+of_source half d p P found h = rw found h
 
 -- more qubits than a pattern may have
 pub limit_past : (c : Circuit) (qubits found : ℕ) →
-    (256 < wires c + j_count c.gates) × (qubits ≡ wires c + j_count c.gates) → found ≡ qubits →
-    source_limit (circuit c) ≡ Some (end.Limit 2 found)
+    (256 < qubit_count c) × (qubits ≡ qubit_count c) → found ≡ qubits →
+    translation_limit c ≡ Some (end.Limit 2 found)
 limit_past c qubits found (past, counted) e =
-    let t : nat_lt 256 (wires c + j_count c.gates) ≡ true = grind (arith, nat_tests) in
+    let t : nat_lt 256 (qubit_count c) ≡ true = grind (arith, nat_tests) in
     rw (t, e, counted) refl
 
-pub no_limit : (c : Circuit) → wires c + j_count c.gates ≤ 256 → source_limit (circuit c) ≡ None
+pub no_limit : (c : Circuit) → qubit_count c ≤ 256 → translation_limit c ≡ None
 no_limit c few =
-    let t : nat_lt 256 (wires c + j_count c.gates) ≡ false = grind (arith, nat_tests) in
+    let t : nat_lt 256 (qubit_count c) ≡ false = grind (arith, nat_tests) in
     rw t refl
 
--- the status of a refusal that is due, or of want of memory
-pub gives_status : (due : Due) (given : TextEnd) → Gives (Err given) due →
-    IsStatus due (status_by_end given)
-gives_status due (end.Refused code line column) h = inl (sym (ap status_of h))
-gives_status due (end.Limit which found) h = inl (sym (ap status_of h))
-gives_status due end.Memory h = inr (inr (inl refl))
-
--- the text for the source of a document is the answer that is due
-pub gives_from : (d : Spelled) (text_for : Pattern → List ℕ) (p : Pattern)
-    (made : Result (Vec ℕ Global) Memory) (given : Result (Vec ℕ Global) TextEnd) →
-    p ≡ source_of d → source_limit d ≡ None → IfOk made (λ text. text.items ≡ text_for p) →
-    IfOk given (λ text. made ≡ Ok text) → IfErr given (λ e. e ≡ end.Memory) →
-    Gives given (due_from d text_for)
-gives_from d text_for p made (Ok text) source few written told lacks =
-    let items : text.items ≡ text_for p =
-    subst (λ (r : Result (Vec ℕ Global) Memory). IfOk r (λ t. t.items ≡ text_for p)) told written in
-    rw few (ap answer (sym (items ∙ ap text_for source)))
-gives_from d text_for p made (Err e) source few written told lacks =
-    subst (λ (x : TextEnd). Gives (Err x) (due_from d text_for)) (sym lacks) tt
-
--- without a fault the status is the one that is due, or want of memory
-pub no_fault : (due : Due) (given : Status) → IsStatus due given → (given ≡ status.ReadFault → ⊥) →
-    (given ≡ status.WriteFault → ⊥) → (given ≡ status_of due) ⊎ (given ≡ status.Memory)
-no_fault due given (inl e) no_read no_write = inl e
-no_fault due given (inr (inl e)) no_read no_write = absurd (no_read e)
-no_fault due given (inr (inr (inl e))) no_read no_write = inr e
-no_fault due given (inr (inr (inr (done, e)))) no_read no_write = absurd (no_write e)
-
-pub of_task : (found : Option Asked) (P Q : Asked → Type 0) → ((task : Asked) → P task → Q task) →
-    IfSome found P → IfSome found Q
-of_task None P Q h p = tt
-of_task (Some task) P Q h p = h task p
-
--- a count that is always 0 does not rise
-pub never_rose : Rose 0 0 → ⊥
-never_rose h = omega arith
-
--- the text of a run within its limit, and the end of one past it
-pub run_ok : (limit : Option (ℕ × ℕ)) (text : List ℕ) (made : Vec ℕ Global) → limit ≡ None →
-    made.items ≡ text → Gives (Ok made) (due_unless (run_limit limit) (answer text))
-run_ok limit text made within e = rw within (ap answer (sym e))
-
-pub run_err : (limit : Option (ℕ × ℕ)) (due : Due) (given : RunEnd) →
-    ((which found : ℕ) → given ≡ run.Limit which found → limit ≡ Some (which, found)) →
-    Gives (Err (end_of_run given)) (due_unless (run_limit limit) due)
-run_err limit due (run.Limit which found) h = rw (h which found refl) refl
-run_err limit due run.Memory h = tt
-
 -- what is due for a branch with as many outcomes as measured qubits
-pub branch_due : (place : Place) (digits : List ℕ) (p : Pattern) (change : Option (List ChangeRow)) →
+pub outcomes_due : (half : ℕ) (place : Place) (digits : List ℕ) (p : Pattern) →
     length digits ≡ measured_count p →
-    due_branch place (map is_one digits) (pattern p change)
-    ≡ due_unless (run_limit (branch_limit p)) (answer (branch_run 4 p (map is_one digits)))
-branch_due place digits p change long =
+    due_outcomes half place (map is_one digits) p
+    ≡ due_unless (run_limit (branch_limit p)) (holding (branch_run half p (map is_one digits)))
+outcomes_due half place digits p long =
     let same : nat_eq (length (map is_one digits)) (measured_count p) ≡ true =
     eq-eqb (length (map is_one digits)) (measured_count p) (length-map digits is_one ∙ long) in
     rw same refl
+
+-- what is given for the translation of a circuit
+pub translated_gives : (half : ℕ) (c : Circuit) (p : Pattern) (given : Result Answer TextEnd) →
+    p ≡ translation half c → translation_limit c ≡ None → Gives given (holding (pattern_text p)) →
+    Gives given (due_translation half c)
+translated_gives half c p given same few h =
+    rw few (subst (λ (q : Pattern). Gives given (holding (pattern_text q))) same h)
+
+-- the pattern of a circuit, and of a pattern
+pub source_of_circuit : (half : ℕ) (d : PlainDocument) (c : Circuit) (p : Pattern) →
+    circuit_in d ≡ Some c → p ≡ translation half c → source_in half d ≡ Some p
+source_of_circuit half d c p found same = rw found (ap Some (sym same))
+
+pub source_of_pattern : (half : ℕ) (d : PlainDocument) (p : Pattern) →
+    is_some (circuit_in d) ≡ false → pattern_in d ≡ Some p → source_in half d ≡ Some p
+source_of_pattern half d p none found = by_circuit (circuit_in d) none
+  where
+    by_circuit : (o : Option Circuit) → is_some o ≡ false →
+        option_or (option_map (translation half) o) (pattern_in d) ≡ Some p
+    by_circuit None none = found
+    by_circuit (Some c) none = absurd (cc none)
+
+pub limit_of_pattern : (d : PlainDocument) → is_some (circuit_in d) ≡ false →
+    source_limit d ≡ None
+limit_of_pattern d none = by_circuit (circuit_in d) none
+  where
+    by_circuit : (o : Option Circuit) → is_some o ≡ false →
+        option_and_then translation_limit o ≡ None
+    by_circuit None none = refl
+    by_circuit (Some c) none = absurd (cc none)
+
+-- what `run` gives for a pattern, and what it means
+pub run_of_pattern : (half : ℕ) (d : PlainDocument) (p : Pattern)
+    (given : Result Answer TextEnd) → is_some (circuit_in d) ≡ false → pattern_in d ≡ Some p →
+    Gives given (due_branches half p) → IsSomeAnd (due_run half d) (Gives given)
+run_of_pattern half d p given none found h = by_circuit (circuit_in d) none
+  where
+    by_circuit : (o : Option Circuit) → is_some o ≡ false →
+        IsSomeAnd (option_or (option_map (due_table half) o)
+        (option_map (due_branches half) (pattern_in d))) (Gives given)
+    by_circuit None none = rw found h
+    by_circuit (Some c) none = absurd (cc none)
+
+pub run_means_pattern : (half : ℕ) (d : PlainDocument) (p : Pattern) →
+    is_some (circuit_in d) ≡ false → pattern_in d ≡ Some p → MeansBranches half p →
+    MeansRun half d
+run_means_pattern half d p none found h = by_circuit (circuit_in d) none
+  where
+    by_circuit : (o : Option Circuit) → is_some o ≡ false →
+        MatchOption o (IsSomeAnd (pattern_in d) (MeansBranches half)) (MeansTable half)
+    by_circuit None none = rw found h
+    by_circuit (Some c) none = absurd (cc none)
+
+-- what was made of a circuit was made of its document
+pub circuit_source : (half : ℕ) (d : PlainDocument) (c : Circuit) (made : Result Pattern TextEnd) →
+    circuit_in d ≡ Some c → IfOk made (λ p. p ≡ translation half c) →
+    IfOk made (λ p. source_in half d ≡ Some p)
+circuit_source half d c (Ok p) found same = source_of_circuit half d c p found same
+circuit_source half d c (Err e) found same = tt
+
+pub circuit_few : (d : PlainDocument) (c : Circuit) (made : Result Pattern TextEnd) →
+    circuit_in d ≡ Some c → OnOk made (translation_limit c ≡ None) →
+    OnOk made (source_limit d ≡ None)
+circuit_few d c (Ok p) found few = rw found few
+circuit_few d c (Err e) found few = tt
+
+pub circuit_err : (d : PlainDocument) (c : Circuit) (made : Result Pattern TextEnd) →
+    circuit_in d ≡ Some c → IfErr made (λ e. IsLimit e (translation_limit c)) →
+    IfErr made (λ e. IsLimit e (source_limit d))
+circuit_err d c (Ok p) found limit = tt
+circuit_err d c (Err e) found limit = rw found limit
+
+pub some_source : (half : ℕ) (d : PlainDocument) (c : Circuit) → circuit_in d ≡ Some c →
+    IsTrue (is_some (source_in half d))
+some_source half d c found = rw found refl
+
+pub some_pattern : (half : ℕ) (d : PlainDocument) (p : Pattern) →
+    is_some (circuit_in d) ≡ false → pattern_in d ≡ Some p → IsTrue (is_some (source_in half d))
+some_pattern half d p none found = ap is_some (source_of_pattern half d p none found)

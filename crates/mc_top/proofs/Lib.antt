@@ -1,5 +1,5 @@
-pub mod Opening
 pub mod Dues
+pub mod Serving
 pub mod ChangesFit
-pub mod Shifts
-pub mod Taken
+pub mod ShiftedForms
+pub mod AllBranches

@@ -1,7 +1,13 @@
 pub mod Status
 pub mod Ends
-pub mod Tasks
-pub mod Documents
-pub mod Spelled
+pub mod Due
+pub mod Command
+pub mod Source
+pub mod Translate
+pub mod Print
+pub mod Standard
+pub mod Shift
+pub mod Run
+pub mod Branch
+pub mod Commands
 pub mod Serve
-pub mod Meaning

@@ -2,11 +2,13 @@
 use Rattle.std.specs.Prelude.{ℕ, List, [], ◌++◌, codes}
 use Rattle.std.specs.Fmt.{decimal}
 use Rattle.mc_top.specs.declared.status.Status.{Status}
-use Rattle.mc_top.specs.declared.status.Status.TheVariants.{Done, Usage, Refused, Limit, ReadFault, WriteFault, Memory}
+use Rattle.mc_top.specs.declared.status.Status.TheVariants.{Done, No, Usage, Refused, Limit}
+use Rattle.mc_top.specs.declared.status.Status.TheVariants.{ReadFault, WriteFault, Memory}
 
 -- the number with which the program ends
 abbrev pub exit_of : Status → ℕ
 exit_of Done = 0
+exit_of No = 1
 exit_of Usage = 2
 exit_of (Refused code line column) = 3
 exit_of (Limit which found) = 4
@@ -18,6 +20,7 @@ exit_of Memory = 7
 abbrev pub note_of : Status → List ℕ
 note_of Done = []
 note_of WriteFault = []
+note_of No = codes "mcalc: no\n"
 note_of Usage = codes "mcalc: usage\n"
 note_of (Refused code line column) =
     codes "mcalc: refused " ++ decimal code ++ codes " at " ++ decimal line ++ codes ":"

@@ -1,12 +1,16 @@
-//! What is proved of the texts of documents.
+//! What is proved of what is due.
 
-ghost use Rattle.std.specs.Prelude.{◌≡◌, ℕ, List, None};
-ghost use Rattle.mc_top.specs.declared.takes.Takes.{Takes};
-ghost use Rattle.mc_top.specs.Documents.{Spells, first_in_text, spelled};
+ghost use Rattle.std.specs.Prelude.{ℕ, List, IsTrue, is_some};
+ghost use Rattle.mc_top.specs.Commands.{Asked};
+ghost use Rattle.mc_top.specs.Serve.{due_in, due_of};
 
-/// A text without fault and passed limit spells a document, of a kind that is taken. So what is due where none is spelled,
-/// or for another kind, never comes.
-pub fn clean_texts_spell_documents()
-    ensures { (half : ℕ) (takes : Takes) (text : List ℕ) →
-        first_in_text half takes text ≡ None → Spells takes (spelled half text) }
-{}
+use mc_document::{clean_texts_spell_documents, taken_documents_are_seen};
+
+/// Something is due for every text, whatever command is asked for: what a command can't meet is ruled out by what it takes.
+pub fn something_is_due()
+    ensures for_text { (asked : Asked) (text : List ℕ) → IsTrue (is_some (due_of asked text)) }
+    ensures in_step { (half : ℕ) (asked : Asked) (text : List ℕ) → IsTrue (is_some (due_in half asked text)) }
+{
+    clean_texts_spell_documents();
+    taken_documents_are_seen();
+}

@@ -1,24 +1,29 @@
 //! All that the command does: from its words and the bytes that come in to the bytes that go out.
+//!
+//! A command is a file here and one in `specs`: `translate`, `print`, `standard`, `shift`, `run`, and `branch`, which is
+//! `run` with outcomes. `task` lists them. `top` reads the source, has the answer made, writes it and notes how it ended.
 #![tactic(auto)]
 
-mod document;
+mod answer;
+mod branch;
 mod laws;
 mod note;
-mod passes;
+mod print;
 mod run;
 #[cfg(test)]
 mod run_tests;
+mod shift;
+mod source;
+mod standard;
 mod status;
-mod takes;
 mod task;
 #[cfg(test)]
 mod tests;
 mod top;
-mod work;
+mod translate;
 
-pub use document::{Document, read_document};
-pub use laws::clean_texts_spell_documents;
+pub use laws::something_is_due;
+pub use mc_document::{Document, Takes, read_document};
 pub use status::Status;
-pub use takes::Takes;
 pub use task::Task;
-pub use top::{serve, serve_bytes};
+pub use top::serve;

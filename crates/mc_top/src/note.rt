@@ -28,13 +28,15 @@ fn add_number(line: &mut Line, number: u64)
     add(line, buffer.format(number).as_bytes());
 }
 
-/// The line that a status is noted by: none where the whole answer or a part of it was written.
+/// The line that a status is noted by: none where the whole answer was written and what was asked holds, or a part of the
+/// answer was written.
 pub(crate) fn note(status: &Status) -> Line
     ensures { result.items ≡ note_of status.now }
 {
     let mut line = Line::new();
     match *status {
         Status::Done | Status::WriteFault => {}
+        Status::No => add(&mut line, b"mcalc: no\n"),
         Status::Usage => add(&mut line, b"mcalc: usage\n"),
         Status::Refused {
             code,

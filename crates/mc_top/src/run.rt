@@ -1,119 +1,64 @@
-//! Runs, as canonical texts.
+//! `run`: the table of a circuit, or of all branches of a pattern.
 
-ghost use Rattle.std.specs.Prelude.{◌≡◌, None, IfOk, length, map};
-ghost use Rattle.mc_pattern.specs.Patterns.{measured_count};
-ghost use Rattle.mc_run.specs.Limits.{branch_limit};
-ghost use Rattle.mc_run_text.specs.Runs.{branch_run};
-ghost use Rattle.mc_top.specs.Ends.{end_of_run};
-ghost use Rattle.mc_top.specs.Serve.{Gives, answer, due_branch, due_run, due_unless, run_limit};
-ghost use Rattle.mc_top.specs.Spelled.{plain_document};
-ghost use Rattle.mc_top.specs.Tasks.{is_one};
-ghost use Rattle.mc_top.specs.Documents.{circuit, pattern};
+ghost use Rattle.std.specs.Prelude.{◌≡◌, OnOk, IfOk, IsSomeAnd, IsTrue};
+ghost use Rattle.mc_model.specs.Steps.{is_permitted};
+ghost use Rattle.mc_document.specs.Documents.{plain_document};
+ghost use Rattle.mc_document.specs.Kinds.{IsTaken, circuits_and_patterns};
+ghost use Rattle.mc_top.specs.Due.{Gives, Holds};
+ghost use Rattle.mc_top.specs.Run.{MeansBranches, MeansRun, MeansTable, due_branches, due_run};
+ghost use Rattle.mc_top.specs.Run.{due_table};
 
-use crate::document::Document;
+use crate::answer::{Answer, ran};
 use mc_circuit::Circuit;
+use mc_document::{Document, taken_documents_are_seen};
 use mc_lex::TextEnd;
-use mc_model::Memory;
 use mc_pattern::Pattern;
-use mc_run::RunEnd;
-use mc_run_text::{run_all_text, run_branch_text, run_circuit_text};
-use mc_text::Fault;
+use mc_run_text::{amplitudes_are_reduced, phases_are_least, run_all_text, run_circuit_text};
 use std::alloc::Global;
 
-/// The end of a text for that of a run.
-fn text_end(end: RunEnd) -> TextEnd
-    ensures { result ≡ end_of_run end }
-{
-    match end {
-        RunEnd::Limit { which, found } => TextEnd::Limit { which, found },
-        RunEnd::Memory => TextEnd::Memory,
-    }
-}
+/// The word that asks for it.
+pub(crate) const WORD: &[u8] = b"run";
 
 /// The table of a circuit, or of all branches of a pattern.
-pub(crate) fn answer_run(alloc: Global, document: &Document<4>) -> Result<Vec<u8>, TextEnd>
-    ensures { Gives result (due_run (plain_document document.now)) }
-{
-    match document {
-        Document::Circuit(circuit) => answer_circuit(alloc, circuit),
-        Document::Pattern(pattern, _) => answer_all(alloc, pattern),
-    }
-}
-
-fn answer_circuit(alloc: Global, source: &Circuit<4>) -> Result<Vec<u8>, TextEnd>
-    ensures { Gives result (due_run (circuit source.now)) }
-{
-    match run_circuit_text(alloc, source) {
-        Ok(text) => Ok(text),
-        Err(end) => Err(text_end(end)),
-    }
-}
-
-fn answer_all(alloc: Global, source: &Pattern<4>) -> Result<Vec<u8>, TextEnd>
-    ensures { Gives result (due_run (pattern source.now None)) }
-{
-    match run_all_text(alloc, source) {
-        Ok(text) => Ok(text),
-        Err(end) => Err(text_end(end)),
-    }
-}
-
-/// The table of a pattern's branch by its outcomes, a digit each. Where these are not as many as its measured qubits, that is a
-/// fault at the place of the text's first word.
-pub(crate) fn answer_branch(
+pub(crate) fn answer_run<const H: usize>(
     alloc: Global,
-    place: (u32, u32),
-    digits: &[u8],
-    document: &Document<4>,
-) -> Result<Vec<u8>, TextEnd>
-    ensures { Gives result (due_branch place (map is_one digits.now) (plain_document document.now)) }
+    document: Document<H>,
+) -> Result<Answer, TextEnd>
+    requires permitted { IsTrue (is_permitted H) }
+    requires taken { IsTaken circuits_and_patterns (plain_document document) }
+    ensures due { IsSomeAnd (due_run H (plain_document document.entry)) (Gives result) }
+    ensures meaning { OnOk result (MeansRun H (plain_document document.entry)) }
+    ensures holds { IfOk result Holds }
 {
-    match document {
-        // circuits are not taken
-        Document::Circuit(_) => Ok(Vec::new(alloc)),
-        Document::Pattern(pattern, _) => answer_outcomes(alloc, place, digits, pattern),
+    taken_documents_are_seen();
+    if document.is_circuit() {
+        let circuit = document.into_circuit();
+        answer_table(alloc, &circuit)
+    } else {
+        let pattern = document.into_pattern();
+        answer_branches(alloc, &pattern)
     }
 }
 
-fn answer_outcomes(
-    alloc: Global,
-    place: (u32, u32),
-    digits: &[u8],
-    source: &Pattern<4>,
-) -> Result<Vec<u8>, TextEnd>
-    ensures { Gives result (due_branch place (map is_one digits.now) (pattern source.now None)) }
+fn answer_table<const H: usize>(alloc: Global, circuit: &Circuit<H>) -> Result<Answer, TextEnd>
+    requires { IsTrue (is_permitted H) }
+    ensures due { Gives result (due_table H circuit.now) }
+    ensures meaning { MeansTable H circuit.now }
+    ensures holds { IfOk result Holds }
 {
-    if digits.len() != source.measured() as usize {
-        return Err(Fault::BitsDiffer.at(place.0, place.1));
-    }
-    let outcomes = match outcomes_of(alloc, digits) {
-        Ok(outcomes) => outcomes,
-        Err(_) => return Err(TextEnd::Memory),
-    };
-    answer_values(alloc, source, outcomes.as_slice())
+    amplitudes_are_reduced::<H>();
+    ran(run_circuit_text(alloc, circuit))
 }
 
-fn answer_values(alloc: Global, source: &Pattern<4>, outcomes: &[bool]) -> Result<Vec<u8>, TextEnd>
-    requires { length outcomes.now ≡ measured_count source.now }
-    ensures { Gives result
-        (due_unless (run_limit (branch_limit source.now)) (answer (branch_run 4 source.now outcomes.now))) }
+fn answer_branches<const H: usize>(alloc: Global, pattern: &Pattern<H>) -> Result<Answer, TextEnd>
+    requires { IsTrue (is_permitted H) }
+    ensures due { Gives result (due_branches H pattern.now) }
+    ensures meaning { MeansBranches H pattern.now }
+    ensures holds { IfOk result Holds }
 {
-    match run_branch_text(alloc, source, outcomes) {
-        Ok(text) => Ok(text),
-        Err(end) => Err(text_end(end)),
-    }
-}
-
-/// The outcomes that digits spell.
-fn outcomes_of(alloc: Global, digits: &[u8]) -> Result<Vec<bool>, Memory>
-    ensures { IfOk result (λ outcomes. outcomes.items ≡ map is_one digits.now) }
-{
-    let mut outcomes = Vec::new(alloc);
-    'digits: for digit in digits {
-        match outcomes.push(*digit == b'1') {
-            Ok(()) => {}
-            Err(_) => return Err(Memory),
-        }
-    }
-    Ok(outcomes)
+    amplitudes_are_reduced::<H>();
+    phases_are_least::<H>();
+    // the proof needs that the pattern is valid
+    let _names = pattern.names();
+    ran(run_all_text(alloc, pattern))
 }

@@ -1,6 +1,6 @@
 //! How a run ended.
 
-ghost use Rattle.std.specs.Prelude.{◌≡◌};
+ghost use Rattle.std.specs.Prelude.{◌≡◌, if◌then◌else◌};
 ghost use Rattle.mc_top.specs.Status.{exit_of};
 
 use mc_lex::TextEnd;
@@ -8,8 +8,10 @@ use mc_lex::TextEnd;
 /// How a run of the command ended.
 #[derive(Clone, Copy, Debug, PartialEq, Eq)]
 pub enum Status {
-    /// The whole answer was written.
+    /// The whole answer was written, and what was asked holds.
     Done,
+    /// The whole answer was written, and what was asked does not hold.
+    No,
     /// The words are none that the command knows.
     Usage,
     /// The text breaks the rule with this code, first at this place.
@@ -38,12 +40,20 @@ impl Status {
         }
     }
 
+    /// The status of an answer that was written, by whether what was asked holds.
+    pub(crate) fn of_answer(holds: bool) -> Status
+        ensures { result ≡ (if holds then Status.Done else Status.No) }
+    {
+        if holds { Status::Done } else { Status::No }
+    }
+
     /// The number with which the program ends.
     pub fn exit(&self) -> u8
         ensures { result ≡ exit_of self.now }
     {
         match self {
             Status::Done => 0,
+            Status::No => 1,
             Status::Usage => 2,
             Status::Refused { .. } => 3,
             Status::Limit { .. } => 4,

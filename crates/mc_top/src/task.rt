@@ -1,13 +1,27 @@
-//! The words that the command knows.
+//! The commands, the words that ask for them, and their answers.
 
-ghost use Rattle.std.specs.Prelude.{◌≡◌, [], ◌∷◌, map};
+ghost use Rattle.std.specs.Prelude.{◌≡◌, [], ◌∷◌, map, IfOk, IsSomeAnd, IsTrue, OnOk};
 ghost use Rattle.std.specs.List.{list_all};
 ghost use Rattle.std.specs.Option.{option_map};
 ghost use Rattle.std.specs.String.{string_bytes};
-ghost use Rattle.mc_top.specs.Tasks.{are_outcomes, asked_in, is_count, is_outcome, plain_task};
-ghost use Rattle.mc_top.specs.Serve.{takes_of};
+ghost use Rattle.mc_model.specs.Steps.{is_permitted};
+ghost use Rattle.mc_document.specs.Documents.{IsDocument, plain_document};
+ghost use Rattle.mc_document.specs.Kinds.{IsTaken};
+ghost use Rattle.mc_top.specs.Commands.{are_outcomes, asked_in, command_of, is_count, is_outcome};
+ghost use Rattle.mc_top.specs.Commands.{plain_task};
+ghost use Rattle.mc_top.specs.Due.{Gives, Holds};
 
-use crate::takes::Takes;
+use crate::answer::Answer;
+use crate::branch::answer_branch;
+use crate::print::answer_print;
+use crate::run::answer_run;
+use crate::shift::answer_shift;
+use crate::standard::answer_standard;
+use crate::translate::answer_translate;
+use crate::{print, run, shift, standard, translate};
+use mc_document::{Placed, Takes};
+use mc_lex::TextEnd;
+use std::alloc::Global;
 
 /// What the words ask for.
 #[derive(Clone, Copy)]
@@ -29,14 +43,39 @@ pub enum Task<'w> {
 impl<'w> Task<'w> {
     /// The kinds of document that are taken.
     pub(crate) fn takes(&self) -> Takes
-        ensures { result ≡ takes_of (plain_task self.now) }
+        ensures { result ≡ (command_of (plain_task self.now)).takes }
     {
-        let (circuit, pattern) = match self {
-            Task::Translate => (true, false),
-            Task::Print | Task::Standard | Task::Shift | Task::Run => (true, true),
-            Task::RunBranch(_) => (false, true),
-        };
-        Takes { circuit, pattern }
+        match self {
+            Task::Translate => Takes::circuits(),
+            Task::Print => Takes::all(),
+            Task::Standard | Task::Shift | Task::Run => Takes::circuits_and_patterns(),
+            Task::RunBranch(_) => Takes::patterns(),
+        }
+    }
+}
+
+/// The answer to a document that is taken.
+pub(crate) fn answer_document<const H: usize>(
+    alloc: Global,
+    task: Task<'_>,
+    read: Placed<H>,
+) -> Result<Answer, TextEnd>
+    requires permitted { IsTrue (is_permitted H) }
+    requires valid { IsDocument H (plain_document read.document) }
+    requires taken { IsTaken (command_of (plain_task task)).takes (plain_document read.document) }
+    ensures due { IsSomeAnd ((command_of (plain_task task.entry)).due H (read.entry.line, read.entry.column)
+        (plain_document read.entry.document)) (Gives result) }
+    ensures meaning { OnOk result ((command_of (plain_task task.entry)).Means H (plain_document read.entry.document)) }
+    ensures holds { IfOk result Holds }
+{
+    let place = (read.line, read.column);
+    match task {
+        Task::Translate => answer_translate(alloc, read.document),
+        Task::Print => answer_print(alloc, read.document),
+        Task::Standard => answer_standard(alloc, read.document),
+        Task::Shift => answer_shift(alloc, read.document),
+        Task::Run => answer_run(alloc, read.document),
+        Task::RunBranch(digits) => answer_branch(alloc, place, digits, read.document),
     }
 }
 
@@ -44,19 +83,19 @@ impl<'w> Task<'w> {
 fn task_of_word<'w>(word: &[u8]) -> Option<Task<'w>>
     ensures { option_map plain_task result ≡ asked_in (word.now ∷ []) }
 {
-    if word == b"translate".as_slice() {
+    if word == translate::WORD {
         return Some(Task::Translate);
     }
-    if word == b"print".as_slice() {
+    if word == print::WORD {
         return Some(Task::Print);
     }
-    if word == b"standard".as_slice() {
+    if word == standard::WORD {
         return Some(Task::Standard);
     }
-    if word == b"shift".as_slice() {
+    if word == shift::WORD {
         return Some(Task::Shift);
     }
-    if word == b"run".as_slice() {
+    if word == run::WORD {
         return Some(Task::Run);
     }
     None
@@ -91,7 +130,7 @@ fn are_outcomes(digits: &[u8]) -> bool
 fn task_with<'w>(word: &[u8], digits: &'w [u8]) -> Option<Task<'w>>
     ensures { option_map plain_task result ≡ asked_in (word.now ∷ digits.now ∷ []) }
 {
-    if word == b"run".as_slice() && are_outcomes(digits) {
+    if word == run::WORD && are_outcomes(digits) {
         Some(Task::RunBranch(digits))
     } else {
         None

@@ -112,6 +112,9 @@ pub(crate) const WILD_STANDARD: &str = "pattern 1\nin a b\nm a 0\nx b a\nz b a\n
 
 const THREE_GATES: &str = "circuit 1\nin a\nj a 1\nj a 2\nj a 3\nout a\nend\n";
 
+const THREE_GATES_STANDARD: &str =
+    "pattern 1\nin a\nn q1\nn q2\nn q3\ne a q1\ne q1 q2\ne q2 q3\nm a 7\nm q1 6 s: a\nm q2 5 s: q1 t: a\nx q3 q2\nz q3 q1\nout q3\nend\n";
+
 const THREE_GATES_SHIFTED: &str =
     "pattern 1\nin a\nn q1\nn q2\nn q3\ne a q1\ne q1 q2\ne q2 q3\nm a 7\nm q1 6 s: a\nm q2 5 s: q1\nx q3 a q2\nz q3 q1\nout q3\nend\nchange 1\no a\no q1\no q2 a\nend\n";
 
@@ -128,6 +131,7 @@ fn prints_standard_forms(rt: HostRuntime) -> Result<(), Fail> {
     let rows = [
         (TWO_GATES, TWO_GATES_STANDARD),
         (TWO_GATES_STANDARD, TWO_GATES_STANDARD),
+        (THREE_GATES, THREE_GATES_STANDARD),
         (WILD, WILD_STANDARD),
         (WILD_STANDARD, WILD_STANDARD),
         (
@@ -211,55 +215,103 @@ fn runs_documents(rt: HostRuntime) -> Result<(), Fail> {
     check(&rt, alloc, "run 2", ONE_GATE_PATTERN.as_bytes(), usage)
 }
 
-/// Prints each text, and compares the code, the line and the column of its refusal.
+/// What is due where a text is refused with a code at a line and a column.
+fn refused(place: (u8, u32, u32)) -> Status {
+    Status::Refused {
+        code: place.0,
+        line: place.1,
+        column: place.2,
+    }
+}
+
+/// Serves the words of each row on its text, and compares the code, the line and the column of its refusal.
 fn refusals(
     rt: &impl Abort,
     alloc: Global,
-    rows: &[(&str, (u8, u32, u32), &str)],
+    rows: &[(&str, &str, (u8, u32, u32))],
 ) -> Result<(), Fail> {
     for row in rows {
-        let status = Status::Refused {
-            code: row.1.0,
-            line: row.1.1,
-            column: row.1.2,
-        };
-        check(rt, alloc, "print", row.0.as_bytes(), (status, "", row.2))?;
+        let words = listed(alloc, row.0)?;
+        let mut source = HonestSource::new(Vec::from_slice(alloc, row.1.as_bytes())?);
+        let mut out = HonestSink::new(alloc, 4096)?;
+        let mut note = HonestSink::new(alloc, 96)?;
+        let status = serve(alloc, words.as_slice(), &mut source, &mut out, &mut note);
+        assert_eq!(rt; status, refused(row.2));
+        assert_eq!(rt; out.bytes(), b"".as_slice());
     }
     Ok(())
 }
 
+/// A document for each fault that there is.
 #[test]
-fn refuses_patterns(rt: HostRuntime) -> Result<(), Fail> {
+fn refuses_each_fault(rt: HostRuntime) -> Result<(), Fail> {
     let rows = [
         (
+            "print",
+            "circuit 1\nin \u{e4}\nout \u{e4}\nend\n",
+            (2, 2, 4),
+        ),
+        ("print", "circus 1\n", (3, 1, 1)),
+        ("translate", "pattern 1\nin a\nout a\nend\n", (4, 1, 1)),
+        ("print", "circuit 01\nin a\nout a\nend\n", (5, 1, 9)),
+        ("print", "circuit 1\nplus a\nout a\nend\n", (6, 2, 1)),
+        ("print", "circuit 1\nin a\nj a\nout a\nend\n", (7, 3, 4)),
+        ("print", "circuit 1\nin a\nj a 0 0\nout a\nend\n", (8, 3, 7)),
+        ("print", "circuit 1\nin a-b\nout a-b\nend\n", (9, 2, 4)),
+        ("print", "circuit 1\nin a\nj a pi\nout a\nend\n", (10, 3, 5)),
+        ("print", "circuit 1\nin a a\nout a\nend\n", (12, 2, 6)),
+        ("print", "circuit 1\nin a\nj b 0\nout a\nend\n", (13, 3, 3)),
+        (
+            "print",
+            "pattern 1\nin a b\nm a 0\ne a b\nout b\nend\n",
+            (14, 4, 3),
+        ),
+        ("print", "circuit 1\nin a\ncz a a\nout a\nend\n", (15, 3, 6)),
+        (
+            "print",
             "pattern 1\nin a b\nm a 0 s: b\nm b 0\nout\nend\n",
             (17, 3, 10),
-            "mcalc: refused 17 at 3:10\n",
         ),
+        ("print", "circuit 1\nin a b\nout a a\nend\n", (18, 3, 7)),
+        ("print", "circuit 1\nin a b\nout a\nend\n", (19, 3, 6)),
+        ("print", "circuit 1\nin a\nout a\n", (20, 4, 1)),
         (
-            "pattern 1\nin a\nn q1\ne a q1\nm a 7\nx q1 a\nout q1\n",
-            (20, 8, 1),
-            "mcalc: refused 20 at 8:1\n",
-        ),
-        (
-            "pattern 1\nin a\nn q1\ne a q1\nm a 7\nx q1 a\nout q1\nen",
-            (6, 8, 1),
-            "mcalc: refused 6 at 8:1\n",
-        ),
-        (
-            "pattern 1\nin a\nout a\nend\ngraph 1\n",
+            "print",
+            "circuit 1\nin a\nout a\nend\ncircuit 1\n",
             (21, 5, 1),
-            "mcalc: refused 21 at 5:1\n",
         ),
         (
-            "pattern 1\nin a\nn q1\nn q2\nn q3\ne a q1\ne q1 q2\ne q2 q3\nm a 7\nm q1 6 s: a\nm q2 5 s: q1\nx q3 a q2\nz q3 q1\nout q3\nend\nchange 1\no a\no q1\nend\n",
-            (22, 19, 1),
-            "mcalc: refused 22 at 19:1\n",
-        ),
-        (
+            "print",
             "pattern 1\nin a\nm a 0\nout\nend\nchange 1\nend\n",
             (22, 7, 1),
-            "mcalc: refused 22 at 7:1\n",
+        ),
+        ("run 11", "pattern 1\nin a\nm a 0\nout\nend\n", (25, 1, 1)),
+    ];
+    refusals(&rt, rt.alloc(), rows.as_slice())
+}
+
+#[test]
+fn refuses_cut_patterns(rt: HostRuntime) -> Result<(), Fail> {
+    let rows = [
+        (
+            "print",
+            "pattern 1\nin a\nn q1\ne a q1\nm a 7\nx q1 a\nout q1\n",
+            (20, 8, 1),
+        ),
+        (
+            "print",
+            "pattern 1\nin a\nn q1\ne a q1\nm a 7\nx q1 a\nout q1\nen",
+            (6, 8, 1),
+        ),
+        (
+            "print",
+            "pattern 1\nin a\nout a\nend\ngraph 1\n",
+            (21, 5, 1),
+        ),
+        (
+            "print",
+            "pattern 1\nin a\nn q1\nn q2\nn q3\ne a q1\ne q1 q2\ne q2 q3\nm a 7\nm q1 6 s: a\nm q2 5 s: q1\nx q3 a q2\nz q3 q1\nout q3\nend\nchange 1\no a\no q1\nend\n",
+            (22, 19, 1),
         ),
     ];
     refusals(&rt, rt.alloc(), rows.as_slice())
@@ -303,7 +355,8 @@ fn counts_names(rt: HostRuntime) -> Result<(), Fail> {
         found: 257,
     };
     let note = "mcalc: limit 2 found 257\n";
-    check(&rt, alloc, "print", more.as_slice(), (passed, "", note))
+    check(&rt, alloc, "print", more.as_slice(), (passed, "", note))?;
+    check(&rt, alloc, "translate", more.as_slice(), (passed, "", note))
 }
 
 #[test]

@@ -1,37 +1,77 @@
 //! From the words and the source to the answer, the note and the status.
 
-ghost use Rattle.std.specs.Prelude.{◌≡◌, ◌≢◌, ◌⊎◌, ◌↔◌, ◌≤◌, map, Err, Some, None, IfSome, IsTrue, is_some};
+ghost use Rattle.std.specs.Prelude.{◌≡◌, ◌≢◌, ◌↔◌, ◌≤◌, length, map, IfOk, IfSome, IsSomeAnd};
+ghost use Rattle.std.specs.Prelude.{IsTrue, OnOk};
 ghost use Rattle.std.specs.String.{string_bytes};
 ghost use Rattle.std.specs.Io.KnownBytes.{IsAtEnd};
 ghost use Rattle.mc_io.specs.Faults.{Rose};
 ghost use Rattle.mc_io.specs.Told.{TakesAtMost, TellsAsBefore};
 ghost use Rattle.mc_top.specs.Status.{note_of};
-ghost use Rattle.mc_top.specs.Tasks.{asked_in, plain_task, IsListed};
-ghost use Rattle.mc_top.specs.Serve.{IsStatus, IsAnswered, IsUnwritten, Writes, Notes, due_of, status_of};
-ghost use Rattle.mc_top.specs.Meaning.{Means};
+ghost use Rattle.mc_model.specs.Limits.{most_bytes};
+ghost use Rattle.mc_model.specs.Steps.{is_permitted};
+ghost use Rattle.mc_top.specs.Commands.{asked_in, plain_task, IsListed};
+ghost use Rattle.mc_top.specs.Due.{Gives, Holds};
+ghost use Rattle.mc_top.specs.Serve.{Appends, IsAnswered, IsStatus, IsUnwritten, IsWhole};
+ghost use Rattle.mc_top.specs.Serve.{MakesReadsFor, Means, MeansIn, Notes, due_in, due_of, half_of};
 
+use crate::answer::Answer;
+use crate::laws::something_is_due;
 use crate::note::note as status_line;
 use crate::status::Status;
-use crate::task::{Task, task_of};
-use crate::work::answer;
-use mc_io::{HonestSink, HonestSource, ReadEnd, Sink, Source, read_all, write_all};
+use crate::task::{Task, answer_document, task_of};
+use mc_document::read_placed;
+use mc_io::{ReadEnd, Sink, Source, read_all, write_all};
+use mc_lex::TextEnd;
 use std::alloc::Global;
 
 /// The most bytes of a text.
 const MOST_BYTES: usize = 8_388_608;
 
+/// The answer of a task to a text.
+fn answer<const H: usize>(alloc: Global, task: Task<'_>, text: &[u8]) -> Result<Answer, TextEnd>
+    requires permitted { IsTrue (is_permitted H) }
+    requires short { length text.now ≤ most_bytes }
+    ensures due { IsSomeAnd (due_in H (plain_task task.entry) text.now) (Gives result) }
+    ensures meaning { OnOk result (MeansIn H (plain_task task.entry) text.now) }
+    ensures holds { IfOk result Holds }
+{
+    something_is_due();
+    match read_placed::<H>(alloc, text, task.takes()) {
+        Ok(read) => answer_document(alloc, task, read),
+        Err(end) => Err(end),
+    }
+}
+
+/// The answer of a task to a text, whose header says how many steps a turn has.
+fn answer_in_turn(alloc: Global, task: Task<'_>, text: &[u8]) -> Result<Answer, TextEnd>
+    requires { length text.now ≤ most_bytes }
+    ensures due { IsSomeAnd (due_in (half_of text.now) (plain_task task.entry) text.now) (Gives result) }
+    ensures meaning { OnOk result (Means (plain_task task.entry) text.now) }
+    ensures holds { IfOk result Holds }
+{
+    answer::<4>(alloc, task, text)
+}
+
 /// Reads the whole source and makes the whole answer, and writes it.
 fn run<S: Source, K: Sink>(alloc: Global, task: Task<'_>, source: &mut S, out: &mut K) -> Status
-    ensures status { IfSome (S.left source.old) (λ input. IsStatus (due_of (plain_task task.entry) input) result) }
-    ensures written { IfSome (S.left source.old) (λ input. Writes result (K.written out.old) (K.written out.new) (due_of (plain_task task.entry) input)) }
+    ensures status { IfSome (S.left source.old) (λ input.
+        IsSomeAnd (due_of (plain_task task.entry) input) (λ due. IsStatus due result)) }
+    ensures written { IfSome (S.left source.old) (λ input.
+        IsSomeAnd (due_of (plain_task task.entry) input) (Appends result (K.written out.old) (K.written out.new))) }
     ensures untouched { IsUnwritten result → out.new ≡ out.old }
-    ensures meaning { result ≡ Status.Done → IfSome (S.left source.old) (λ input. Means (plain_task task.entry) input) }
+    ensures meaning { IsWhole result → IfSome (S.left source.old) (λ input. Means (plain_task task.entry) input) }
+    ensures never_no { result ≢ Status.No }
+    ensures no_usage { result ≢ Status.Usage }
     ensures read { result ≡ Status.ReadFault → Rose (S.faults source.old) (S.faults source.new) }
     ensures write { result ≡ Status.WriteFault → Rose (K.faults out.old) (K.faults out.new) }
     ensures all_read { IsAnswered result → IsAtEnd (S.left source.new) }
     ensures taken { TakesAtMost (S.left source.old) (S.left source.new) 8_388_609 }
-    ensures no_usage { result ≡ Status.Usage → ⊥ }
+    ensures tells { TellsAsBefore (S.left source.old) (S.left source.new) }
+    ensures later { S.faults source.old ≤ S.faults source.new }
+    ensures later_out { K.faults out.old ≤ K.faults out.new }
+    ensures reads { MakesReadsFor S.reads source.old result source.new }
 {
+    something_is_due();
     let bytes = match read_all(alloc, source, MOST_BYTES) {
         Ok(bytes) => bytes,
         Err(ReadEnd::Fault) => return Status::ReadFault,
@@ -43,12 +83,12 @@ fn run<S: Source, K: Sink>(alloc: Global, task: Task<'_>, source: &mut S, out: &
         }
         Err(ReadEnd::Memory) => return Status::Memory,
     };
-    let text = match answer(alloc, task, bytes.as_slice()) {
-        Ok(text) => text,
+    let made = match answer_in_turn(alloc, task, bytes.as_slice()) {
+        Ok(made) => made,
         Err(end) => return Status::from_end(end),
     };
-    match write_all(out, text.as_slice()) {
-        Ok(()) => Status::Done,
+    match write_all(out, made.text.as_slice()) {
+        Ok(()) => Status::of_answer(made.holds),
         Err(_) => Status::WriteFault,
     }
 }
@@ -71,24 +111,31 @@ pub fn serve<S: Source, K: Sink, E: Sink>(
     ensures unread { result ≡ Status.Usage → source.new ≡ source.old }
 
     // the status is the one that is due for the bytes that were left in the source, or `ReadFault`, `Memory`, or
-    // `WriteFault` in place of `Done`
-    ensures status { IfSome (asked_in (map string_bytes words.now)) (λ task.
-        IfSome (S.left source.old) (λ input. IsStatus (due_of task input) result)) }
+    // `WriteFault` in place of `Done` or `No`; no command of today answers `No`
+    ensures status { IfSome (asked_in (map string_bytes words.now)) (λ asked. IfSome (S.left source.old) (λ input.
+        IsSomeAnd (due_of asked input) (λ due. IsStatus due result))) }
+    ensures never_no { result ≢ Status.No }
     ensures read { result ≡ Status.ReadFault → Rose (S.faults source.old) (S.faults source.new) }
     ensures write { result ≡ Status.WriteFault → Rose (K.faults out.old) (K.faults out.new) }
 
     // what was appended to `out` is the answer that is due, a part of it at `WriteFault`, and nothing after the others
-    ensures written { IfSome (asked_in (map string_bytes words.now)) (λ task.
-        IfSome (S.left source.old) (λ input. Writes result (K.written out.old) (K.written out.new) (due_of task input))) }
+    ensures written { IfSome (asked_in (map string_bytes words.now)) (λ asked. IfSome (S.left source.old) (λ input.
+        IsSomeAnd (due_of asked input) (Appends result (K.written out.old) (K.written out.new)))) }
     ensures untouched { IsUnwritten result → out.new ≡ out.old }
 
     // what the answer means
-    ensures meaning { result ≡ Status.Done → IfSome (asked_in (map string_bytes words.now)) (λ task.
-        IfSome (S.left source.old) (λ input. Means task input)) }
+    ensures meaning { IsWhole result → IfSome (asked_in (map string_bytes words.now)) (λ asked.
+        IfSome (S.left source.old) (λ input. Means asked input)) }
 
-    // the source was read to its end where the answer was made, and never more than one byte past the limit
+    // the source was read to its end where the answer was made, and never more than one byte past the limit; it tells
+    // what is left where it did before; the calls were those of `read_all`; no count of faults falls
     ensures all_read { IsAnswered result → IsAtEnd (S.left source.new) }
     ensures taken { TakesAtMost (S.left source.old) (S.left source.new) 8_388_609 }
+    ensures tells { TellsAsBefore (S.left source.old) (S.left source.new) }
+    ensures reads { MakesReadsFor S.reads source.old result source.new }
+    ensures later { S.faults source.old ≤ S.faults source.new }
+    ensures later_out { K.faults out.old ≤ K.faults out.new }
+    ensures later_note { E.faults note.old ≤ E.faults note.new }
     ensures noted { Notes (E.written note.old) (E.written note.new) (E.faults note.old) (E.faults note.new) (note_of result) }
 {
     let status = match task_of(words) {
@@ -98,21 +145,4 @@ pub fn serve<S: Source, K: Sink, E: Sink>(
     let line = status_line(&status);
     let _ = write_all(note, line.as_slice());
     status
-}
-
-/// Serves over bytes and a sink in memory. No call of theirs fails, so the status is the one that is due, or `Memory`.
-pub fn serve_bytes<E: Sink>(
-    alloc: Global,
-    words: &[String],
-    source: &mut HonestSource,
-    out: &mut HonestSink,
-    note: &mut E,
-) -> Status
-    ensures usage { (result ≡ Status.Usage) ↔ (¬ IsListed (map string_bytes words.now)) }
-    ensures status { IfSome (asked_in (map string_bytes words.now)) (λ task.
-        (result ≡ status_of (due_of task source.old)) ⊎ (result ≡ Status.Memory)) }
-    ensures no_read_fault { result ≢ Status.ReadFault }
-    ensures no_write_fault { result ≢ Status.WriteFault }
-{
-    serve(alloc, words, source, out, note)
 }

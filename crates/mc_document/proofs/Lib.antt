@@ -1,0 +1,4 @@
+pub mod Opening
+pub mod Taken
+pub mod Joined
+pub mod CanonicalTexts

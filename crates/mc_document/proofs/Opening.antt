@@ -1,0 +1,259 @@
+-- A document behind its header, and a change behind its own.
+use Rattle.std.proofs.Common.{◌≡◌, ℕ, zero, suc, List, [], ◌∷◌, true, Option, Some, None, refl, sym}
+use Rattle.std.proofs.Common.{◌∙◌, ap, subst, map, length, false, Result, Ok, Err, IfOk}
+use Rattle.std.specs.List.{list_any}
+use Rattle.std.specs.Option.{option_map}
+use Rattle.mc_lex.specs.declared.kind.Kind.{Kind}
+use Rattle.mc_lex.specs.declared.kind.Kind.TheVariants.{Circuit, Pattern, Graph, Change, Flow}
+use Rattle.mc_lex.specs.declared.kind.Kind.TheVariants.{NoFlow, NoCausal, Trace, Least, Gates}
+use Rattle.mc_lex.specs.Lines.{Item, word, bad, Line, lines_of, end_of}
+use Rattle.mc_lex.specs.declared.end.TextEnd.{TextEnd}
+use Rattle.mc_lex.specs.declared.end.TextEnd.TheVariants as end
+use Rattle.mc_lex.specs.Left.{Left, begin, has_line, on_first, tokens_on, lines_on, IsFurther}
+use Rattle.mc_model.specs.Pattern as plain
+use Rattle.mc_model.specs.Pattern.{has_constant}
+use Rattle.mc_text.specs.declared.fault.Fault.{Fault}
+use Rattle.mc_text.specs.declared.fault.Fault.TheVariants.{NoKind, BehindEnd}
+use Rattle.mc_text.specs.Judged.{Judgement, Lines, Place, fault, placed, or_later, words_of}
+use Rattle.mc_text.specs.Judged.{first_in_section, section_lines, behind_section}
+use Rattle.mc_text.specs.Headers.{plain_forms, first_in_header, IsHeader}
+use Rattle.mc_text.specs.Stops.{IsEnd}
+use Rattle.mc_pattern_text.specs.ChangeJudge.{change_rules}
+use Rattle.mc_pattern_text.specs.ChangeRows.{AllPlain}
+use Rattle.mc_pattern_text.specs.Value.{Spelled, spelled_n, spelled_e, spelled_m, spelled_x}
+use Rattle.mc_pattern_text.specs.Value.{spelled_z, spelled_commands, command_by, pattern_of}
+use Rattle.mc_pattern_text.specs.ChangeValue.{SpelledRow, row_by, rows_of}
+use Rattle.mc_pattern_text.proofs.RisingSets.{rising_where}
+use Rattle.mc_document.specs.declared.takes.Takes.{Takes}
+use Rattle.mc_document.specs.Documents.{HasNoConstants}
+use Rattle.mc_document.specs.Kinds.{refused_behind, refused_kind}
+use Rattle.mc_document.specs.Sections.{StartsDocument, first_behind, first_behind_pattern}
+use Rattle.mc_document.specs.Sections.{first_in_kind, first_in_lines, first_in_text, kind_in}
+use Rattle.mc_document.specs.Sections.{spelled, spelled_change, spelled_in_kind, spelled_lines}
+use Rattle.mc_document.specs.Places.{place_in, place_in_lines, first_place}
+
+header_kind : (kind : Kind) (place : Place) (items : List Item) → IsHeader kind place items →
+    kind_in (words_of items) ≡ Some kind
+header_kind kind place [] h = absurd h
+header_kind kind place (word bytes line column ∷ items) h = h.0
+header_kind kind place (bad line column ∷ items) h = absurd h
+
+first_by_kind : (half : ℕ) (takes : Takes) (lines : List Line) (end : Place) (kind : Kind)
+    (place : Place) → has_line lines ≡ true → IsHeader kind place (on_first lines end).here →
+    first_in_header (refused_kind takes) NoKind plain_forms (on_first lines end).here (on_first lines end).lack
+    ≡ None →
+    first_in_lines half takes lines end
+    ≡ first_in_kind half (Some kind) (on_first lines end).later end
+first_by_kind half takes [] end kind place some h clean = absurd (cc)
+first_by_kind half takes (line ∷ lines) end kind place some h clean =
+    rw (clean, header_kind kind place line.items h) refl
+
+spelled_by_kind : (half : ℕ) (lines : List Line) (end : Place) (kind : Kind) (place : Place) →
+    has_line lines ≡ true → IsHeader kind place (on_first lines end).here →
+    spelled_lines half lines ≡ spelled_in_kind half (Some kind) (on_first lines end).later
+spelled_by_kind half [] end kind place some h = absurd (cc)
+spelled_by_kind half (line ∷ lines) end kind place some h =
+    rw (header_kind kind place line.items h) refl
+
+-- `opened` stands on the first of the lines, a header of this kind, and `headed` behind it
+pub record IsOpened (lines : List Line) (end : Place) (opened headed : Left) (kind : Kind)
+    (place : Place) : Type 0 where
+  pub some : has_line lines ≡ true
+  pub opens : opened ≡ on_first lines end
+  pub header : IsHeader kind place opened.here
+  pub later : headed.later ≡ opened.later
+  pub last : headed.last ≡ opened.last
+
+last_kept : (lines : List Line) (end : Place) → (on_first lines end).last ≡ end
+last_kept [] end = refl
+last_kept (line ∷ lines) end = refl
+
+header_on : (lines : List Line) (end : Place) (opened headed : Left) (kind : Kind) (place : Place) →
+    IsOpened lines end opened headed kind place → IsHeader kind place (on_first lines end).here
+header_on lines end opened headed kind place o =
+    subst (λ (left : Left). IsHeader kind place left.here) o.opens o.header
+
+later_on : (lines : List Line) (end : Place) (opened headed : Left) (kind : Kind) (place : Place) →
+    IsOpened lines end opened headed kind place → headed.later ≡ (on_first lines end).later
+later_on lines end opened headed kind place o =
+    o.later ∙ ap (λ (left : Left). left.later) o.opens
+
+pub opened_first : (half : ℕ) (takes : Takes) (lines : List Line) (end : Place)
+    (opened headed : Left) (kind : Kind) (place : Place) →
+    IsOpened lines end opened headed kind place →
+    first_in_header (refused_kind takes) NoKind plain_forms opened.here opened.lack ≡ None →
+    first_in_lines half takes lines end ≡ first_in_kind half (Some kind) headed.later headed.last
+opened_first half takes lines end opened headed kind place o clean =
+    let header = header_on lines end opened headed kind place o in
+    let none = subst
+    (λ (left : Left). first_in_header (refused_kind takes) NoKind plain_forms left.here left.lack ≡ None)
+    o.opens clean in
+    let later = later_on lines end opened headed kind place o in
+    let last : headed.last ≡ end =
+    o.last ∙ ap (λ (left : Left). left.last) o.opens ∙ last_kept lines end in
+    rw (later, last) (first_by_kind half takes lines end kind place o.some header none)
+
+pub opened_spelled : (half : ℕ) (lines : List Line) (end : Place) (opened headed : Left)
+    (kind : Kind) (place : Place) → IsOpened lines end opened headed kind place →
+    spelled_lines half lines ≡ spelled_in_kind half (Some kind) headed.later
+opened_spelled half lines end opened headed kind place o =
+    let header = header_on lines end opened headed kind place o in
+    let later = later_on lines end opened headed kind place o in
+    rw later (spelled_by_kind half lines end kind place o.some header)
+
+-- an end that answers the first of two
+pub end_first : (given : TextEnd) (first later : Option (Judgement × Place)) → IsEnd given first →
+    IsEnd given (or_later first later)
+end_first (end.Refused code line column) None later h = absurd (cc h)
+end_first (end.Refused code line column) (Some judged) later h = h
+end_first (end.Limit which found) None later h = absurd (cc h)
+end_first (end.Limit which found) (Some judged) later h = h
+end_first end.Memory first later h = tt
+
+place_by_header : (lines : List Line) (end : Place) (kind : Kind) (place : Place) →
+    has_line lines ≡ true → IsHeader kind place (on_first lines end).here →
+    place_in_lines lines end ≡ place
+place_by_header [] end kind place some h = absurd (cc)
+place_by_header (line ∷ lines) end kind place some h = place_at line.items line.lack h
+  where
+    place_at : (items : List Item) (lack : Place) → IsHeader kind place items →
+        place_in items lack ≡ place
+    place_at [] lack h = absurd h
+    place_at (word bytes line column ∷ items) lack h = sym h.1
+    place_at (bad line column ∷ items) lack h = absurd h
+
+-- the word that names the kind is the first one
+pub opened_place : (lines : List Line) (end : Place) (opened headed : Left) (kind : Kind)
+    (place : Place) → IsOpened lines end opened headed kind place → place_in_lines lines end ≡ place
+opened_place lines end opened headed kind place o =
+    place_by_header lines end kind place o.some (header_on lines end opened headed kind place o)
+
+-- the answer to a fault of the header
+pub header_first : (half : ℕ) (takes : Takes) (lines : List Line) (end : Place) (opened : Left)
+    (given : TextEnd) → has_line lines ≡ true → opened ≡ on_first lines end →
+    IsEnd given (first_in_header (refused_kind takes) NoKind plain_forms opened.here opened.lack) →
+    IsEnd given (first_in_lines half takes lines end)
+header_first half takes [] end opened given some opens h = absurd (cc)
+header_first half takes (line ∷ lines) end opened given some opens h =
+    end_first given _ _ (subst (λ (left : Left). IsEnd given
+    (first_in_header (refused_kind takes) NoKind plain_forms left.here left.lack)) opens h)
+
+-- the header of a document that nothing is against is that of a circuit or a pattern
+starts_kind : (takes : Takes) (kind : Kind) → refused_kind takes kind ≡ None → StartsDocument kind
+starts_kind takes Circuit clean = tt
+starts_kind takes Pattern clean = tt
+starts_kind takes Graph clean = absurd (cc clean)
+starts_kind takes Change clean = absurd (cc clean)
+starts_kind takes Flow clean = absurd (cc clean)
+starts_kind takes NoFlow clean = absurd (cc clean)
+starts_kind takes NoCausal clean = absurd (cc clean)
+starts_kind takes Trace clean = absurd (cc clean)
+starts_kind takes Least clean = absurd (cc clean)
+starts_kind takes Gates clean = absurd (cc clean)
+
+unrefused : (takes : Takes) (kind : Kind) (place : Place) (later : Option (Judgement × Place))
+    (refused : Option Fault) → refused_kind takes kind ≡ refused →
+    or_later (placed place (option_map fault refused)) later ≡ None → refused_kind takes kind ≡ None
+unrefused takes kind place later None e clean = e
+unrefused takes kind place later (Some broken) e clean = absurd (cc clean)
+
+pub starts : (takes : Takes) (items : List Item) (lack : Place) (kind : Kind) (place : Place) →
+    IsHeader kind place items →
+    first_in_header (refused_kind takes) NoKind plain_forms items lack ≡ None → StartsDocument kind
+starts takes [] lack kind place h clean = absurd h
+starts takes (word bytes line column ∷ items) lack kind place h clean =
+    starts_kind takes kind
+    (unrefused takes kind (line, column) _ (refused_kind takes kind) refl (rw h.0 at clean))
+starts takes (bad line column ∷ items) lack kind place h clean = absurd h
+
+-- `opened` stands on the header of what stands behind a pattern, `headed` behind it
+pub record IsBehind (lines : List Line) (end : Place) (opened headed : Left) : Type 0 where
+  pub some : has_line lines ≡ true
+  pub opens : opened ≡ on_first lines end
+  pub clean : first_in_header refused_behind BehindEnd plain_forms opened.here opened.lack ≡ None
+  pub later : headed.later ≡ opened.later
+  pub last : headed.last ≡ opened.last
+
+first_in_change : (p : plain.Pattern) (lines : List Line) (end : Place) → has_line lines ≡ true →
+    first_in_header refused_behind BehindEnd plain_forms (on_first lines end).here (on_first lines end).lack
+    ≡ None →
+    first_behind_pattern p lines end
+    ≡ or_later (first_in_section (change_rules p) [] (on_first lines end).later end)
+    (first_behind (behind_section (on_first lines end).later))
+first_in_change p [] end some clean = absurd (cc)
+first_in_change p (line ∷ lines) end some clean = rw clean refl
+
+pub behind_first : (p : plain.Pattern) (lines : List Line) (end : Place) (opened headed : Left) →
+    IsBehind lines end opened headed →
+    first_behind_pattern p lines end
+    ≡ or_later (first_in_section (change_rules p) [] headed.later headed.last)
+    (first_behind (behind_section headed.later))
+behind_first p lines end opened headed b =
+    let none = subst
+    (λ (left : Left). first_in_header refused_behind BehindEnd plain_forms left.here left.lack ≡ None)
+    b.opens b.clean in
+    let later : headed.later ≡ (on_first lines end).later =
+    b.later ∙ ap (λ (left : Left). left.later) b.opens in
+    let last : headed.last ≡ end =
+    b.last ∙ ap (λ (left : Left). left.last) b.opens ∙ last_kept lines end in
+    rw (later, last) (first_in_change p lines end b.some none)
+
+change_behind : (p : plain.Pattern) (lines : List Line) (end : Place) → has_line lines ≡ true →
+    spelled_change p lines ≡ Some (rows_of p.names (section_lines (on_first lines end).later))
+change_behind p [] end some = absurd (cc)
+change_behind p (line ∷ lines) end some = refl
+
+pub behind_spelled : (p : plain.Pattern) (lines : List Line) (end : Place) (opened headed : Left) →
+    IsBehind lines end opened headed →
+    spelled_change p lines ≡ Some (rows_of p.names (section_lines headed.later))
+behind_spelled p lines end opened headed b =
+    let later : headed.later ≡ (on_first lines end).later =
+    b.later ∙ ap (λ (left : Left). left.later) b.opens in
+    rw later (change_behind p lines end b.some)
+
+-- a reader further on has the same end of the text
+tokens_last : (k : ℕ) (left : Left) → (tokens_on k left).last ≡ left.last
+tokens_last zero left = refl
+tokens_last (suc k) left = tokens_last k left
+
+lines_last : (n : ℕ) (left : Left) → (lines_on n left).last ≡ left.last
+lines_last zero left = refl
+lines_last (suc n) left =
+    last_kept (lines_on n left).later (lines_on n left).last ∙ lines_last n left
+
+pub further_last : (left left' : Left) → IsFurther left left' → left'.last ≡ left.last
+further_last left left' h =
+    ap (λ (l : Left). l.last) h.stands
+    ∙ tokens_last h.tokens (lines_on h.lines left)
+    ∙ lines_last h.lines left
+
+-- the rows that lines spell have sets in order, without a constant
+pub plain_rows : (names : List (List ℕ)) (rows : List SpelledRow) →
+    AllPlain (map (row_by names) rows)
+plain_rows names [] = tt
+plain_rows names (row ∷ rows) = (
+  (rising_where _ (length names), refl),
+  plain_rows names rows,
+)
+
+-- the commands that lines spell have signals without a constant
+plain_command : (half : ℕ) (names : List (List ℕ)) (c : Spelled) →
+    has_constant (command_by half names c) ≡ false
+plain_command half names (spelled_n a) = refl
+plain_command half names (spelled_e a b) = refl
+plain_command half names (spelled_m a b s t) = refl
+plain_command half names (spelled_x a s) = refl
+plain_command half names (spelled_z a s) = refl
+
+plain_commands : (half : ℕ) (names : List (List ℕ)) (cs : List Spelled) →
+    list_any has_constant (map (command_by half names) cs) ≡ false
+plain_commands half names [] = refl
+plain_commands half names (c ∷ cs) =
+    rw (plain_command half names c, plain_commands half names cs) refl
+
+pub plain_result : {E : Type 0} (half : ℕ) (read : Result plain.Pattern E) (lines : Lines) →
+    IfOk read (λ p. p ≡ pattern_of half lines) → IfOk read HasNoConstants
+plain_result half (Ok p) lines same =
+    ap (λ (q : plain.Pattern). list_any has_constant q.commands) same
+    ∙ plain_commands half _ (spelled_commands lines)
+plain_result half (Err e) lines same = tt

@@ -1,0 +1,11 @@
+use Rattle.mc_document.proofs.Taken.{circuit_seen, pattern_seen, other_seen}
+use Rattle.mc_document.proofs.laws.taken_documents_are_seen.Goals as goal
+
+pub returns-clause-circuit : goal.returns-clause-circuit
+returns-clause-circuit c = circuit_seen
+
+pub returns-clause-pattern : goal.returns-clause-pattern
+returns-clause-pattern c = pattern_seen
+
+pub returns-clause-other : goal.returns-clause-other
+returns-clause-other c = other_seen

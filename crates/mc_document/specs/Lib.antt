@@ -1,0 +1,4 @@
+pub mod Documents
+pub mod Kinds
+pub mod Sections
+pub mod Places

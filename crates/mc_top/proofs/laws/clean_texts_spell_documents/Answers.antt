@@ -1,5 +1,0 @@
-use Rattle.mc_top.proofs.Taken.{clean_spells}
-use Rattle.mc_top.proofs.laws.clean_texts_spell_documents.Goals as goal
-
-pub returns : goal.returns
-returns c = clean_spells

@@ -1,0 +1,75 @@
+-- The commands, and the lists of words that ask for them.
+use Rattle.std.specs.Prelude.{ℕ, List, [], ◌∷◌, Bool, ◌&&◌, ◌||◌, find, map, length, nat_eq, nat_le}
+use Rattle.std.specs.Prelude.{if◌then◌else◌, IsTrue, Option, None, Some, is_some}
+use Rattle.std.specs.List.{list_all}
+use Rattle.std.specs.Cmp.Lexicographic.{pointwise}
+use Rattle.mc_top.specs.declared.task.Task.{Task}
+use Rattle.mc_top.specs.declared.task.Task.TheVariants.{Translate, Print, Standard, Shift, Run}
+use Rattle.mc_top.specs.declared.task.Task.TheVariants.{RunBranch}
+use Rattle.mc_top.specs.Command.{Command}
+use Rattle.mc_top.specs.Translate.{translate_command}
+use Rattle.mc_top.specs.Print.{print_command}
+use Rattle.mc_top.specs.Standard.{standard_command}
+use Rattle.mc_top.specs.Shift.{shift_command}
+use Rattle.mc_top.specs.Run.{run_command}
+use Rattle.mc_top.specs.Branch.{branch_command}
+
+-- what may be asked for
+pub data Asked : Type 0 where
+  translate : Asked
+  print : Asked
+  standard : Asked
+  shift : Asked
+  run : Asked
+  run_branch : List Bool → Asked
+
+abbrev pub command_of : Asked → Command
+command_of translate = translate_command
+command_of print = print_command
+command_of standard = standard_command
+command_of shift = shift_command
+command_of run = run_command
+command_of (run_branch outcomes) = branch_command outcomes
+
+-- what one word asks for
+abbrev pub alone : List Asked
+alone = translate ∷ print ∷ standard ∷ shift ∷ run ∷ []
+
+-- whether this is the word of a command
+abbrev pub is_asked : List ℕ → Asked → Bool
+is_asked word asked = pointwise nat_eq word (command_of asked).word
+
+-- a digit of an outcome is 0 or 1
+abbrev pub is_one : ℕ → Bool
+is_one digit = nat_eq digit 49
+
+abbrev pub is_outcome : ℕ → Bool
+is_outcome digit = nat_eq digit 48 || is_one digit
+
+-- one to 256 outcomes
+abbrev pub is_count : ℕ → Bool
+is_count n = nat_le 1 n && nat_le n 256
+
+abbrev pub are_outcomes : List ℕ → Bool
+are_outcomes digits = is_count (length digits) && list_all is_outcome digits
+
+-- what the words ask for: one of those words alone, or `run` with the outcomes of a branch
+abbrev pub asked_in : List (List ℕ) → Option Asked
+asked_in (word ∷ []) = find (is_asked word) alone
+asked_in (word ∷ digits ∷ []) =
+    if is_asked word run && are_outcomes digits
+    then Some (run_branch (map is_one digits)) else None
+asked_in _ = None
+
+-- the words are one of those lists
+abbrev pub IsListed : List (List ℕ) → Type 0
+IsListed words = IsTrue (is_some (asked_in words))
+
+-- what a task of the code asks for
+abbrev pub plain_task : Task → Asked
+plain_task Translate = translate
+plain_task Print = print
+plain_task Standard = standard
+plain_task Shift = shift
+plain_task Run = run
+plain_task (RunBranch digits) = run_branch (map is_one digits.now)

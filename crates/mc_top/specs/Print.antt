@@ -1,0 +1,24 @@
+-- `print`: a document in canonical spelling.
+use Rattle.std.specs.Prelude.{◌≡◌, ℕ, codes, None, Some, Option}
+use Rattle.mc_document.specs.Documents.{PlainDocument}
+use Rattle.mc_document.specs.Documents.{document_text}
+use Rattle.mc_document.specs.Kinds.{every_kind}
+use Rattle.mc_document.specs.Sections.{first_in_text, spelled}
+use Rattle.mc_top.specs.Due.{Due, holding}
+use Rattle.mc_top.specs.Command.{Command}
+
+abbrev pub due_print : PlainDocument → Option Due
+due_print d = Some (holding (document_text d))
+
+-- what is printed has no fault, and spells the document
+pub record IsReadBack (half : ℕ) (d : PlainDocument) : Type 0 where
+  pub clean : first_in_text half every_kind (document_text d) ≡ None
+  pub same : spelled half (document_text d) ≡ Some d
+
+abbrev pub print_command : Command
+print_command = record {
+  word = codes "print";
+  takes = every_kind;
+  due = λ half place d. due_print d;
+  Means = IsReadBack;
+}
