@@ -9,6 +9,8 @@ mod branch;
 mod laws;
 mod note;
 mod print;
+#[cfg(test)]
+mod rewriting_tests;
 mod run;
 #[cfg(test)]
 mod run_tests;

@@ -9,7 +9,7 @@ use std::process::Abort;
 use std::test::Fail;
 
 /// The third wire is flipped where the first two are 1.
-const TOFFOLI: &str =
+pub(crate) const TOFFOLI: &str =
     "circuit 1\nin a b c\ncz b c\nj c 0\nj c 7\ncz a c\nj c 0\nj c 1\ncz b c\nj c 0\nj c 7\ncz a c\nj c 0\nj c 1\nj b 1\ncz a b\nj b 0\nj b 7\ncz a b\nj b 0\nj a 1\nj a 0\nout a b c\nend\n";
 
 fn add_bits(text: &mut Vec<u8>, n: u8) -> Result<(), Fail> {
