@@ -159,10 +159,6 @@ fn multiplies_sixteenths(rt: HostRuntime) {
         plus_turned(&b, &a, 11),
         of_sixteenths([14, 14, 14, 4, 2, 0, -2, -4])
     );
-    assert_eq!(rt;
-        a.cross(&b, 5).1,
-        of_sixteenths([6, 6, 6, 6, 6, -2, 0, 2]).unwrap_or(one)
-    );
     assert_eq!(rt; phase_between(&[a.turn(13)], &[a]), Some(13));
 }
 
