@@ -16,6 +16,8 @@ mod outputs;
 mod refuter;
 mod stuck;
 mod sums;
+#[cfg(test)]
+mod tests;
 
 pub use builder::{GraphBuilder, GraphEnd};
 pub use end::RowEnd;

@@ -1,4 +1,5 @@
 use super::*;
+use std::test::Fail;
 
 #[test]
 fn tells_lists(rt: HostRuntime) {
@@ -10,4 +11,13 @@ fn tells_lists(rt: HostRuntime) {
     ] {
         assert_eq!(rt; lists_once(&numbers, &due), is_one);
     }
+}
+
+#[test]
+fn appends_where_told(rt: HostRuntime) -> Result<(), Fail> {
+    let mut numbers = Vec::new(rt.alloc());
+    push_if(&mut numbers, true, 4)?;
+    push_if(&mut numbers, false, 5)?;
+    assert_eq!(rt; numbers.as_slice(), [4].as_slice());
+    Ok(())
 }
