@@ -47,7 +47,9 @@ fn is_same(one: &Command<4>, other: &Command<4>) -> bool {
 }
 
 fn translated(rt: &impl Abort, alloc: Global, text: &str) -> Result<Pattern<4>, Fail> {
-    let document = read_document::<4>(alloc, text.as_bytes(), Takes::circuits())?;
+    let text = text.as_bytes();
+    assert!(rt; text.len() < 1000);
+    let document = read_document::<4>(alloc, text, Takes::circuits())?;
     match document {
         Document::Circuit(circuit) => Ok(translate(alloc, &circuit)?),
         Document::Pattern(_, _) => panic!(rt; "a pattern is no circuit"),
