@@ -1,6 +1,6 @@
 -- What a builder of graphs keeps at each call.
-use Rattle.std.proofs.Common.{get_or, ◌≡◌, ◌≢◌, ℕ, zero, suc, ◌*◌, ◌<◌, Bool, true, false, not}
-use Rattle.std.proofs.Common.{◌||◌, map, replicate, length, List, [], ◌∷◌, ◌++◌, Some, None, refl}
+use Rattle.std.proofs.Common.{get_or, ◌≡◌, ◌≢◌, ℕ, zero, suc, ◌*◌, ◌<◌, ◌≤◌, Bool, true, false}
+use Rattle.std.proofs.Common.{not, ◌||◌, map, replicate, length, List, [], ◌∷◌, ◌++◌, Some, None, refl}
 use Rattle.std.proofs.Common.{sym, ◌∙◌, ap, ap₂, arith, set}
 use Rattle.std.specs.Prelude.{Option, nat_eq, nat_lt, slice_get, unwrap_or, IsTrue, if◌then◌else◌}
 use Rattle.std.proofs.lemmas.List.{map-append, length-append, length-replicate, map-set, length-set}
@@ -21,8 +21,8 @@ use Rattle.mc_graph.specs.declared.fixed.Fixed as kept
 use Rattle.mc_graph.specs.declared.label.Label.{Label}
 use Rattle.mc_graph.specs.Graphs.{plain_fixed}
 use Rattle.mc_graph.specs.Links.{linked, AreLinks}
-use Rattle.mc_graph.specs.Building.{IsBuilt, graph_so_far, begun, with_vertex, with_edge}
-use Rattle.mc_graph.specs.Building.{with_angle, with_fixed}
+use Rattle.mc_graph.specs.Building.{IsBuilt, graph_so_far, begun, with_inputs, with_vertex}
+use Rattle.mc_graph.specs.Building.{with_edge, with_angle, with_fixed}
 use Rattle.mc_pattern.specs.Rules.{is_stranger}
 use Rattle.mc_graph.specs.Rules.{edge_rule}
 use Rattle.mc_graph.proofs.RisingEdges.{pairs_rise}
@@ -77,6 +77,25 @@ built_start half names links valid permitted none are = record {
   };
   either = are;
   vertices = λ v w e. absurd (true≢false (sym e ∙ none v w));
+}
+
+-- ---- the inputs
+
+pub built_inputs : (half : ℕ) (g : OpenGraph) (links : List Bool) (count : ℕ) →
+    IsBuilt half g links → count ≤ size g → IsBuilt half (with_inputs g count) links
+built_inputs half g links count h few = record {
+  begun = record {
+    names = h.begun.names;
+    inputs = few;
+    edges = h.begun.edges;
+    angles = h.begun.angles;
+    fixed = h.begun.fixed;
+    outputs = h.begun.outputs;
+    within = h.begun.within;
+    permitted = h.begun.permitted;
+  };
+  either = h.either;
+  vertices = h.vertices;
 }
 
 -- ---- a vertex

@@ -18,3 +18,12 @@ pub mod ZeroAmplitudes
 pub mod PatternSums
 pub mod SettledGraphs
 pub mod OneEdge
+pub mod ListedAll
+pub mod FixedCorrections
+pub mod FollowingCommands
+pub mod GraphSizes
+pub mod GraphCommands
+pub mod EdgeLists
+pub mod TypedCommands
+pub mod RowsFound
+pub mod LayerOrder

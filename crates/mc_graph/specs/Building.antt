@@ -35,6 +35,9 @@ begun names =
       fixed = replicate n not_fixed;
     }
 
+abbrev pub with_inputs : OpenGraph → ℕ → OpenGraph
+with_inputs g count = record g { inputs = count }
+
 -- a vertex with this name may be added: the name is not held, and there is room
 pub record IsFree (g : OpenGraph) (name : Name) : Type 0 where
   pub new : place_of g.names name ≡ None

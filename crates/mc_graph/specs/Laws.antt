@@ -48,3 +48,7 @@ pub record IsPlainGraph (half : ℕ) (p : Pattern) : Type 0 where
 abbrev pub GraphsWithoutConstants : Type 0
 GraphsWithoutConstants = (half : ℕ) (p : Pattern) → HasNoConstants p.commands →
     IsPlainGraph half p
+
+-- the pattern of an open graph without a flow is valid
+abbrev pub ZeroPatternsAreValid : Type 0
+ZeroPatternsAreValid = (g : OpenGraph) → IsOpenGraph g → IsValidPattern (zero_pattern g)

@@ -9,3 +9,5 @@ pub mod Flows
 pub mod Refuters
 pub mod Kept
 pub mod Sums
+pub mod Order
+pub mod Patterns

@@ -11,8 +11,8 @@ ghost use Rattle.mc_graph.specs.Rules.{has_angle as is_measured, edge_rule as br
 ghost use Rattle.mc_graph.specs.Rules.{angle_rule as broken_angle, fix_rule as broken_fix};
 ghost use Rattle.mc_graph.specs.Rules.{output_rule as broken_outputs};
 ghost use Rattle.mc_graph.specs.Rules.{is_missing, is_fixed_inside};
-ghost use Rattle.mc_graph.specs.Building.{begun, with_vertex, with_edge, with_angle, with_fixed};
-ghost use Rattle.mc_graph.specs.Building.{with_outputs, IsFree};
+ghost use Rattle.mc_graph.specs.Building.{begun, with_inputs, with_vertex, with_edge, with_angle};
+ghost use Rattle.mc_graph.specs.Building.{with_fixed, with_outputs, IsFree};
 
 use crate::fixed::Fixed;
 use crate::graph::OpenGraph;
@@ -103,6 +103,14 @@ impl<const H: usize> GraphBuilder<H> {
         self.names.len()
     }
 
+    /// Makes the first `count` vertices the inputs, and no others.
+    pub fn set_inputs(&mut self, count: u16)
+        requires { count ≤ size self.old }
+        ensures { self.new ≡ with_inputs self.old count }
+    {
+        self.inputs = count;
+    }
+
     /// Adds a vertex that is no input, and gives its number. Refusals come in the order of `GraphEnd`, and leave the builder as
     /// it was: `Twice` where the name is held, `Full` where there are 256 vertices.
     pub fn vertex(&mut self, name: Name) -> Result<u16, GraphEnd>
@@ -177,7 +185,8 @@ impl<const H: usize> GraphBuilder<H> {
         Ok(())
     }
 
-    fn has_angle(&self, v: u16) -> bool
+    /// Whether a vertex has an angle.
+    pub fn has_angle(&self, v: u16) -> bool
         requires { v < size self.now }
         ensures { result ≡ is_measured self.now v }
     {

@@ -1,9 +1,9 @@
 //! Rows of flows.
 
 ghost use Rattle.std.specs.Prelude.{◌≡◌, ◌↔◌, ◌<◌, [], ◌∷◌, ◌++◌, true, false, length, Err, Some};
-ghost use Rattle.std.specs.Prelude.{slice_get, OnOk, OnErr};
-ghost use Rattle.mc_graph.specs.RowLists.{has_row as has_line, HaveOwnVertices};
-ghost use Rattle.mc_graph.specs.Flows.{FlowLine};
+ghost use Rattle.std.specs.Prelude.{slice_get, OnOk, OnErr, IfSome, IfNone, None};
+ghost use Rattle.mc_graph.specs.RowLists.{has_row as has_line, row_at, HaveOwnVertices};
+ghost use Rattle.mc_graph.specs.Flows.{FlowLine, layer_in};
 
 use crate::end::RowEnd;
 use mc_signal::QSet;
@@ -119,6 +119,31 @@ impl GFlow {
             vertex: row.vertex,
             layer: row.layer,
             set: &row.set,
+        }
+    }
+
+    /// The row of a vertex, if it has one.
+    pub fn find(&self, vertex: u16) -> Option<FlowRow<'_>>
+        ensures some { IfSome result (λ row. row_at (λ r. r.vertex) self.now.rows vertex ≡
+            Some (record { vertex = row.vertex; layer = row.layer; set = row.set.now })) }
+        ensures none { IfNone result (row_at (λ r. r.vertex) self.now.rows vertex ≡ None) }
+    {
+        'rows: for i in 0..self.len() {
+            let row = self.row(i);
+            if vertex == row.vertex {
+                return Some(row);
+            }
+        }
+        None
+    }
+
+    /// The layer of a vertex, which is 0 where it has no row.
+    pub fn layer_of(&self, vertex: u16) -> u32
+        ensures { result ≡ layer_in self.now.rows vertex }
+    {
+        match self.find(vertex) {
+            Some(row) => row.layer,
+            None => 0,
         }
     }
 }

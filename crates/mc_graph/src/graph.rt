@@ -1,9 +1,11 @@
 //! Open graphs.
 
-ghost use Rattle.std.specs.Prelude.{◌≡◌, ◌*◌, ◌<◌, All, IfSome, is_none};
+ghost use Rattle.std.specs.Prelude.{◌≡◌, ◌*◌, ◌<◌, ◌≤◌, All, IfSome, is_none, flat_map, length};
+ghost use Rattle.std.specs.Prelude.{count_by, nat_lt};
+ghost use Rattle.mc_model.specs.Numbers.{numbers_from};
 ghost use Rattle.mc_model.specs.Signals.{IsRising};
 ghost use Rattle.mc_model.specs.Graph.{size, is_output as gives_out, base_angle, fixed_at};
-ghost use Rattle.mc_graph.specs.Neighbours.{neighbours as row};
+ghost use Rattle.mc_graph.specs.Neighbours.{neighbours as row, edges_up};
 ghost use Rattle.mc_graph.specs.Graphs.{plain_fixed};
 
 use crate::fixed::Fixed;
@@ -36,6 +38,20 @@ impl<const H: usize> Model for OpenGraph<H> {
     ghost invariant = { λ g. IsStored H
         (graph_by g.names g.inputs g.outs.items (map (λ r. r.items) g.rows.items) g.labels.items)
         (map (λ r. r.items) g.rows.items) };
+}
+
+/// How many numbers are greater than another.
+fn count_above(v: u16, numbers: &[u16]) -> u32
+    requires { length numbers.now ≤ 256 }
+    ensures { result ≡ count_by (nat_lt v) numbers.now }
+{
+    let mut count = 0;
+    'numbers: for number in numbers {
+        if v < *number {
+            count += 1;
+        }
+    }
+    count
 }
 
 impl<const H: usize> OpenGraph<H> {
@@ -105,5 +121,19 @@ impl<const H: usize> OpenGraph<H> {
         ensures { plain_fixed result ≡ fixed_at self.now v }
     {
         self.labels[v as usize].fixed
+    }
+
+    /// How many edges there are.
+    pub fn edge_count(&self) -> u32
+        ensures count { result ≡ length self.now.edges }
+        ensures up { flat_map (edges_up self.now) (numbers_from 0 (size self.now)) ≡ self.now.edges }
+    {
+        // the proof needs how the edges are kept
+        let _rows = self.rows.len();
+        let mut count = 0;
+        'vertices: for v in 0..self.len() {
+            count += count_above(v, self.neighbours(v));
+        }
+        count
     }
 }

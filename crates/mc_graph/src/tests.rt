@@ -136,3 +136,36 @@ fn keeps_one_row_for_a_vertex(rt: HostRuntime) -> Result<(), Fail> {
     assert_eq!(rt; refuter.len(), 1);
     Ok(())
 }
+
+#[test]
+fn makes_the_pattern_without_a_flow(rt: HostRuntime) -> Result<(), Fail> {
+    let alloc = rt.alloc();
+    let mut builder = with_an_edge(&rt, alloc)?;
+    assert_eq!(rt; builder.fix_z(1), Ok(()));
+    let graph = finished(builder, alloc, &[1])?;
+    assert_eq!(rt; graph.edge_count(), 1);
+    let pattern = zero_pattern(alloc, &graph)?;
+    match pattern.commands() {
+        [
+            Command::Prep(1),
+            Command::Ent(0, 1),
+            Command::Meas { q: 0, angle, s, t },
+            Command::FixZ { q: 1, s: fix },
+        ] => {
+            assert!(rt; angle.steps() == 7 && s.is_empty() && t.is_empty() && fix.constant());
+        }
+        _ => assert!(rt; false),
+    }
+    Ok(())
+}
+
+#[test]
+fn orders_by_falling_layer(rt: HostRuntime) -> Result<(), Fail> {
+    let alloc = rt.alloc();
+    let graph = finished(with_an_edge(&rt, alloc)?, alloc, &[1])?;
+    let mut flow = GFlow::new(alloc, 1);
+    assert_eq!(rt; flow.push(0, 1, one_member(alloc, 1)?), Ok(()));
+    let order = order_of(alloc, &graph, &flow)?;
+    assert_eq!(rt; order.as_slice(), [0].as_slice());
+    Ok(())
+}
