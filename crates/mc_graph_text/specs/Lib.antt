@@ -1,0 +1,7 @@
+pub mod Roles
+pub mod Value
+pub mod Judge
+pub mod Kept
+pub mod Samples
+pub mod Canonical
+pub mod Rows
