@@ -47,12 +47,15 @@ fn ends(head: Option<Head>) -> bool
 }
 
 impl<'n, K: Rows> Section for RowReader<'n, K> {
+    ghost use Rattle.std.specs.Prelude.{◌∷◌, []};
     ghost use Rattle.mc_rows.specs.Judge.{row_rules};
     ghost use Rattle.mc_rows.specs.Kept.{IsKept};
 
     ghost rules = { λ k. row_rules (K.kind k.kind) k.names.now };
 
     ghost means = { λ k before here. IsKept (K.kind k.kind) k.names.now (K.holds k.kind) k.row before here };
+
+    ghost given = { λ k. k.names.now ∷ [] };
 
     fn word(&mut self, point: Point, word: &[u8]) -> Result<(), Stop> {
         match self.kind.shape(point.head).role(point.count) {
