@@ -1,0 +1,5 @@
+pub mod Printing
+pub mod Sound
+pub mod NoLimits
+pub mod CleanRows
+pub mod Fits

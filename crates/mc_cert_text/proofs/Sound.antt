@@ -1,0 +1,244 @@
+-- The rows of a certificate that fits a graph are sound, and say the certificate.
+use Rattle.std.proofs.Common.{◌≡◌, ℕ, ◌≤◌, ◌<◌, All, Bool, true, false, ◌||◌, List, [], ◌∷◌, ◌++◌}
+use Rattle.std.proofs.Common.{map}
+use Rattle.std.proofs.Common.{length, drop, refl, sym, ap, ◌∙◌, arith, append_assoc, nat_eq}
+use Rattle.std.proofs.Common.{Option, Some, None, slice_index_or}
+use Rattle.std.specs.List.{IsDistinct, AllByRecursion}
+use Rattle.std.proofs.lemmas.Bool.Decides.{nat_tests}
+use Rattle.std.proofs.lemmas.List.{map-append}
+use Rattle.std.proofs.lemmas.List.Elements.{All-nil, All-head, All-tail}
+use Rattle.mc_lex.specs.Lines.{lines_of}
+use Rattle.mc_model.specs.Names.{Name}
+use Rattle.mc_model.specs.Signals.{IsRising}
+use Rattle.mc_model.specs.Graph.{OpenGraph, IsOpenGraph}
+use Rattle.mc_graph.specs.RowLists.{has_row, AreRowsOf, HaveOwnVertices}
+use Rattle.mc_graph.specs.Flows.{FlowLine}
+use Rattle.mc_graph.specs.Refuters.{RefuterLine}
+use Rattle.mc_text.specs.declared.head.Head.{Head}
+use Rattle.mc_text.specs.declared.head.Head.TheVariants.{Depth, G, Y, B, End}
+use Rattle.mc_text.specs.declared.fault.Fault.TheVariants.{RowTwice}
+use Rattle.mc_text.specs.Judged.{section_lines}
+use Rattle.mc_text.specs.Rules.{broken}
+use Rattle.mc_rows.specs.declared.row.Shape.TheVariants.{Bare}
+use Rattle.mc_rows.specs.declared.row.Row.{Row}
+use Rattle.mc_rows.specs.Written.{AreSound, IsWrittenHeader}
+use Rattle.mc_cert_text.specs.Certs.{PlainCert, flow, noflow, nocausal, kind_of_cert, IsCertOf}
+use Rattle.mc_cert_text.specs.Tables.{follows_in_flow, follows_in_refuter}
+use Rattle.mc_cert_text.specs.Value.{flow_lines_in, refuter_in, cert_by}
+use Rattle.mc_cert_text.specs.Kinds.{flow_kind, refuter_kind, cert_kind, cert_in}
+use Rattle.mc_cert_text.specs.Canonical.{depth_row, flow_row, refuter_row, cert_rows, cert_header}
+use Rattle.mc_cert_text.specs.Canonical.{cert_text}
+
+-- the rows say the certificate
+flow_back : (rows : List FlowLine) → flow_lines_in (map flow_row rows) ≡ rows
+flow_back [] = refl
+flow_back (r ∷ rows) = ap (λ (rs : List FlowLine). r ∷ rs) (flow_back rows)
+
+refuter_back : (rows : List RefuterLine)
+    → refuter_in (map refuter_row rows) ≡ rows
+refuter_back [] = refl
+refuter_back (r ∷ rows) = ap (λ (rs : List RefuterLine). r ∷ rs) (refuter_back rows)
+
+cert_back : (cert : PlainCert) → cert_by (kind_of_cert cert) (cert_rows cert) ≡ cert
+cert_back (flow f) =
+    ap (λ (rs : List FlowLine). flow (record { depth = f.depth; rows = rs })) (flow_back f.rows)
+cert_back (noflow rows) = ap noflow (refuter_back rows)
+cert_back (nocausal set) = refl
+
+-- a vertex that has one row has none before it
+at_row : {A : Type 0} (P : ℕ → Type 0) (vertex : A → ℕ) (before : List A) (r : A) (rows : List A)
+    → AllByRecursion P (map vertex (before ++ r ∷ rows)) → P (vertex r)
+at_row P vertex [] r rows all = all.0
+at_row P vertex (b ∷ before) r rows all = at_row P vertex before r rows all.1
+
+own_free : {A : Type 0} (vertex : A → ℕ) (before : List A) (r : A) (rows : List A)
+    → HaveOwnVertices vertex (before ++ r ∷ rows) → has_row vertex before (vertex r) ≡ false
+unfolding IsDistinct
+own_free vertex [] r rows own = refl
+own_free vertex (b ∷ before) r rows own =
+    neither (nat_eq (vertex r) (vertex b)) (has_row vertex before (vertex r))
+    (turned (vertex b) (vertex r)
+    (at_row (λ v. nat_eq (vertex b) v ≡ false) vertex before r rows own.0))
+    (own_free vertex before r rows own.1)
+  where
+    neither : (a b : Bool) → a ≡ false → b ≡ false → (a || b) ≡ false
+    neither a b e f = rw (e, f) refl
+
+    turned : (v w : ℕ) → nat_eq v w ≡ false → nat_eq w v ≡ false
+    turned v w e = grind (arith, nat_tests)
+
+not_twice : {A : Type 0} (vertex : A → ℕ) (found before : List A) (r : A) (rows : List A)
+    → found ≡ before → HaveOwnVertices vertex (before ++ r ∷ rows)
+    → broken ((has_row vertex found (vertex r), RowTwice) ∷ []) ≡ None
+not_twice vertex found before r rows e own =
+    let free = own_free vertex before r rows own in rw (e, free) refl
+
+-- rows of a flow behind others
+flow_sound : (names : List Name) (last : Option Head) (depth : ℕ) (before rows : List FlowLine)
+    → follows_in_flow last (Some G) ≡ true → follows_in_flow last (Some End) ≡ true
+    → AreRowsOf (length names) (λ r. r.vertex) (λ r. r.set) rows
+    → All (λ r. r.layer ≤ 9999) rows → All (λ r. IsRising r.set) rows
+    → HaveOwnVertices (λ r. r.vertex) (before ++ rows)
+    → AreSound flow_kind names last (depth_row depth ∷ map flow_row before) (map flow_row rows)
+flow_sound names last depth before [] next ends lines layers rising own = (ends, refl)
+flow_sound names last depth before (r ∷ rows) next ends lines layers rising own =
+    let n = length names in
+    let same = append_assoc before (r ∷ []) rows in
+    let behind = flow_sound names (Some G) depth (before ++ r ∷ []) rows refl refl
+    (record {
+      vertices = All-tail (λ (s : FlowLine). s.vertex < n) r rows lines.vertices;
+      members = All-tail (λ (s : FlowLine). All (λ k. k < n) s.set) r rows lines.members;
+    })
+    (All-tail (λ (s : FlowLine). s.layer ≤ 9999) r rows layers)
+    (All-tail (λ (s : FlowLine). IsRising s.set) r rows rising) (rw same own) in (
+      record {
+        head = G;
+        head_is = refl;
+        goes = refl;
+        follows = next;
+        opens = refl;
+        number = All-head (λ (s : FlowLine). s.layer ≤ 9999) r rows layers;
+        is_named = record {
+          name = λ e. All-head (λ (s : FlowLine). s.vertex < n) r rows lines.vertices;
+          members = All-head (λ (s : FlowLine). All (λ k. k < n) s.set) r rows lines.members;
+        };
+        named = λ e. not_twice (λ (s : FlowLine). s.vertex) _ before r rows (flow_back before) own;
+        listed = λ q e. refl;
+        rising = All-head (λ (s : FlowLine). IsRising s.set) r rows rising;
+        constant = λ e. absurd (cc e);
+        plain = tt;
+      },
+      rw (map-append flow_row before (r ∷ [])) at behind,
+    )
+
+refuter_sound : (names : List Name) (last : Option Head) (before rows : List RefuterLine)
+    → follows_in_refuter last (Some Y) ≡ true → follows_in_refuter last (Some End) ≡ true
+    → AreRowsOf (length names) (λ r. r.vertex) (λ r. r.set) rows
+    → All (λ r. IsRising r.set) rows → HaveOwnVertices (λ r. r.vertex) (before ++ rows)
+    → AreSound refuter_kind names last (map refuter_row before) (map refuter_row rows)
+refuter_sound names last before [] next ends lines rising own = (ends, refl)
+refuter_sound names last before (r ∷ rows) next ends lines rising own =
+    let n = length names in
+    let same = append_assoc before (r ∷ []) rows in
+    let behind = refuter_sound names (Some Y) (before ++ r ∷ []) rows refl refl
+    (record {
+      vertices = All-tail (λ (s : RefuterLine). s.vertex < n) r rows lines.vertices;
+      members = All-tail (λ (s : RefuterLine). All (λ k. k < n) s.set) r rows lines.members;
+    })
+    (All-tail (λ (s : RefuterLine). IsRising s.set) r rows rising) (rw same own) in (
+      record {
+        head = Y;
+        head_is = refl;
+        goes = refl;
+        follows = next;
+        opens = refl;
+        number = omega arith;
+        is_named = record {
+          name = λ e. All-head (λ (s : RefuterLine). s.vertex < n) r rows lines.vertices;
+          members = All-head (λ (s : RefuterLine). All (λ k. k < n) s.set) r rows lines.members;
+        };
+        named = λ e. not_twice (λ (s : RefuterLine). s.vertex) _ before r rows
+            (refuter_back before) own;
+        listed = λ q e. refl;
+        rising = All-head (λ (s : RefuterLine). IsRising s.set) r rows rising;
+        constant = λ e. absurd (cc e);
+        plain = refl;
+      },
+      rw (map-append refuter_row before (r ∷ [])) at behind,
+    )
+
+pub cert_sound : (g : OpenGraph) (cert : PlainCert) → IsCertOf g cert
+    → AreSound (cert_kind (kind_of_cert cert)) g.names None [] (cert_rows cert)
+cert_sound g (flow f) fits = (
+  record {
+    head = Depth;
+    head_is = refl;
+    goes = refl;
+    follows = refl;
+    opens = refl;
+    number = fits.numbers.0;
+    is_named = record {
+      name = λ e. absurd (cc e);
+      members = All-nil (λ (k : ℕ). k < length g.names);
+    };
+    named = λ e. absurd (cc e);
+    listed = λ q e. refl;
+    rising = tt;
+    constant = λ e. absurd (cc e);
+    plain = (refl, refl, refl);
+  },
+  flow_sound g.names (Some Depth) f.depth [] f.rows refl refl fits.inside fits.numbers.1
+      fits.own.1 fits.own.0,
+)
+cert_sound g (noflow rows) fits =
+    refuter_sound g.names None [] rows refl refl fits.inside fits.own.1 fits.own.0
+cert_sound g (nocausal set) fits = (
+  record {
+    head = B;
+    head_is = refl;
+    goes = refl;
+    follows = refl;
+    opens = refl;
+    number = omega arith;
+    is_named = record { name = λ e. absurd (cc e); members = fits.inside };
+    named = λ e. absurd (cc e);
+    listed = λ q e. refl;
+    rising = fits.own;
+    constant = λ e. absurd (cc e);
+    plain = (refl, refl);
+  },
+  (refl, refl),
+)
+
+pub end_bare : (cert : PlainCert) → (cert_kind (kind_of_cert cert)).shape (Some End) ≡ Bare
+end_bare (flow f) = refl
+end_bare (noflow rows) = refl
+end_bare (nocausal set) = refl
+
+pub header_written : (cert : PlainCert) → IsWrittenHeader (cert_header cert)
+header_written (flow f) = refl
+header_written (noflow rows) = refl
+header_written (nocausal set) = refl
+
+pub same_back : (cert : PlainCert) (rows : List Row) → rows ≡ cert_rows cert
+    → cert_by (kind_of_cert cert) rows ≡ cert
+same_back cert rows e = ap (cert_by (kind_of_cert cert)) e ∙ cert_back cert
+
+-- texts that are read back differ
+abbrev pub AreReadBack : Type 0
+AreReadBack = (g : OpenGraph) (cert : PlainCert) → IsOpenGraph g → IsCertOf g cert
+    → cert_in (kind_of_cert cert) g.names
+    (section_lines (drop 1 (lines_of (cert_text g.names cert)))) ≡ cert
+
+pub same_cert : AreReadBack → (g : OpenGraph) (c d : PlainCert) → IsOpenGraph g → IsCertOf g c
+    → IsCertOf g d → cert_text g.names c ≡ cert_text g.names d → c ≡ d
+same_cert back g c d valid fits fits' e = by_kind c d fits fits' e
+  where
+    read : PlainCert → List ℕ → PlainCert
+    read c text = cert_in (kind_of_cert c) g.names (section_lines (drop 1 (lines_of text)))
+
+    byte_at : ℕ → List ℕ → ℕ
+    byte_at i text = slice_index_or text i 0
+
+    by_kind : (c d : PlainCert) → IsCertOf g c → IsCertOf g d
+        → cert_text g.names c ≡ cert_text g.names d → c ≡ d
+    by_kind (flow f) (flow h) fits fits' e =
+        sym (back g (flow f) valid fits) ∙ ap (read (flow f)) e ∙ back g (flow h) valid fits'
+    by_kind (noflow rows) (noflow others) fits fits' e =
+        sym (back g (noflow rows) valid fits) ∙ ap (read (noflow rows)) e
+        ∙ back g (noflow others) valid fits'
+    by_kind (nocausal set) (nocausal other) fits fits' e =
+        sym (back g (nocausal set) valid fits) ∙ ap (read (nocausal set)) e
+        ∙ back g (nocausal other) valid fits'
+    by_kind (flow f) (noflow rows) fits fits' e =
+        let byte : 102 ≡ 110 = ap (byte_at 0) e in absurd (omega (arith, byte))
+    by_kind (flow f) (nocausal set) fits fits' e =
+        let byte : 102 ≡ 110 = ap (byte_at 0) e in absurd (omega (arith, byte))
+    by_kind (noflow rows) (flow f) fits fits' e =
+        let byte : 110 ≡ 102 = ap (byte_at 0) e in absurd (omega (arith, byte))
+    by_kind (noflow rows) (nocausal set) fits fits' e =
+        let byte : 102 ≡ 99 = ap (byte_at 2) e in absurd (omega (arith, byte))
+    by_kind (nocausal set) (flow f) fits fits' e =
+        let byte : 110 ≡ 102 = ap (byte_at 0) e in absurd (omega (arith, byte))
+    by_kind (nocausal set) (noflow rows) fits fits' e =
+        let byte : 99 ≡ 102 = ap (byte_at 2) e in absurd (omega (arith, byte))

@@ -1,0 +1,23 @@
+//! The texts of certificates, which stand behind a graph: a flow, a refuter, or a stuck set.
+//!
+//! `cert` has the type, `kept_flow`, `kept_refuter` and `kept_stuck` the kinds of their sections and what is kept of the rows
+//! that are read, `read` how a section is read, `print` the canonical text, `check` whether a certificate holds of its graph,
+//! and `laws` what is proved of texts.
+#![tactic(auto)]
+
+mod cert;
+mod check;
+mod kept_flow;
+mod kept_refuter;
+mod kept_stuck;
+mod laws;
+mod print;
+mod read;
+#[cfg(test)]
+mod tests;
+
+pub use cert::Cert;
+pub use check::check_cert;
+pub use laws::{cert_texts_are_read, cert_texts_differ};
+pub use print::print_cert;
+pub use read::read_cert;
