@@ -26,7 +26,7 @@ use Rattle.mc_model.specs.Made.{measuring_order, corrected_measurement, flow_pat
 use Rattle.mc_model.specs.Depth.{NamesOutcome, IsChainFrom, IsChain, IsDependenceDepth}
 use Rattle.mc_make.proofs.MeasuringOrder.{IsToMeasure, IsOrder, IsWhere, where_all, all-append}
 use Rattle.mc_make.proofs.MeasuringOrder.{all-weaker, measured_in_order, below_depth}
-use Rattle.mc_make.proofs.FixedCorrections.{fixed_all, fixed_output}
+use Rattle.mc_graph.proofs.FixedCorrections.{fixed_all, fixed_output}
 use Rattle.mc_make.proofs.FlowSignals.{all_at, IsOpening, GivesNoSecond, no_second_sum}
 use Rattle.mc_make.proofs.FlowSignals.{GivesFirstIn, first_sum_in, Measures, MeasuresWith}
 use Rattle.mc_make.proofs.FlowSignals.{standard_measures}

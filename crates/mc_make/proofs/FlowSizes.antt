@@ -21,66 +21,9 @@ use Rattle.mc_model.specs.Made.{measuring_order, corrected_measurement, flow_pat
 use Rattle.mc_model.proofs.PreparationLemmas.{length-preparations}
 use Rattle.mc_model.proofs.NumberLists.{length-numbers_from, numbers_where-last}
 use Rattle.mc_model.proofs.AnyOrder.{same_length}
-use Rattle.mc_make.proofs.MeasuringOrder.{all-weaker, is_upto}
+use Rattle.mc_graph.proofs.GraphSizes.{few_where, next_row, few_edges, few_fixes}
+use Rattle.mc_make.proofs.MeasuringOrder.{is_upto}
 use Rattle.mc_make.proofs.OrderLists.{upto_once}
-
-at_most_one : {A : Type 0} (b : Bool) (a : A) → length (cond b (a ∷ []) []) ≤ 1
-at_most_one true a = omega arith
-at_most_one false a = omega arith
-
-few_where : (p : Bits) (n : ℕ) → length (numbers_where p n) ≤ n
-few_where p zero = omega arith
-few_where p (suc n) =
-    let old = few_where p n in
-    let all = ap length (numbers_where-last p n) ∙ length-append (numbers_where p n) _ in
-    let last = at_most_one (p n) n in
-    omega arith
-
--- ---- edges, numbered in rising order
-
-edge_number : ℕ → Edge → ℕ
-edge_number n e = e.one * n + e.other
-
-next_row : (a n : ℕ) → suc a * n ≡ a * n + n
-next_row a n = omega arith
-
-number_rises : (n : ℕ) (e f : Edge) → e.other < n → IsBehind e f →
-    edge_number n e < edge_number n f
-unfolding edge_number
-number_rises n e f lt (inl l) =
-    let row = mul-le-mul_right {m = suc e.one} {n = f.one} n (omega arith) in
-    let next = next_row e.one n in
-    omega arith
-number_rises n e f lt (inr h) =
-    let row : e.one * n ≡ f.one * n = ap (λ (k : ℕ). k * n) h.0 in
-    let more = h.1 in
-    omega arith
-
-few_from : (n from : ℕ) (es : List Edge) → EdgesRise n es → from ≤ n * n →
-    AllByRecursion (λ e. from ≤ edge_number n e) es → length es + from ≤ n * n
-unfolding edge_number
-few_from n from [] rise le all = omega arith
-few_from n from (e ∷ es) rise le all =
-    let less = rise.0 in
-    let high = rise.1 in
-    let row = mul-le-mul_right {m = suc e.one} {n = n} n (omega arith) in
-    let next = next_row e.one n in
-    let low = all.0 in
-    let rest =
-    few_from n (suc (edge_number n e)) es rise.3 (omega arith)
-    (all-weaker (IsBehind e) (λ f. suc (edge_number n e) ≤ edge_number n f)
-    (λ f b. number_rises n e f high b) es (recursion_from_All (IsBehind e) es rise.2)) in
-    omega arith
-
-few_edges : (n : ℕ) (es : List Edge) → EdgesRise n es → length es ≤ n * n
-few_edges n es rise =
-    let all = few_from n 0 es rise (omega arith) (every es) in omega arith
-  where
-    every : (es : List Edge) → AllByRecursion (λ e. 0 ≤ edge_number n e) es
-    every [] = tt
-    every (e ∷ es) = (omega arith, every es)
-
--- ---- commands
 
 few_corrected : (g : OpenGraph) (sets : ℕ → Bits) (is : List ℕ) →
     length (flat_map (λ i. corrected_measurement g (sets i) i) is)
@@ -102,19 +45,6 @@ few_corrected g sets (i ∷ is) =
     let long_z = length-map (numbers_where odds n) (λ k. FixZ k (signal_of i)) in
     let old = few_corrected g sets is in
     let next = next_row (length is) (2 * n + 1) in
-    omega arith
-
-few_fixes : (g : OpenGraph) (qs : List ℕ) →
-    length (flat_map (corrections_at g) qs) ≤ 2 * length qs
-few_fixes g [] = omega arith
-few_fixes g (q ∷ qs) =
-    let x : List Command = cond (fixed_at g q).x (FixX q one_signal ∷ []) [] in
-    let z : List Command = cond (fixed_at g q).z (FixZ q one_signal ∷ []) [] in
-    let all = length-append (x ++ z) (flat_map (corrections_at g) qs) in
-    let both = length-append x z in
-    let few_x = at_most_one (fixed_at g q).x (FixX q one_signal) in
-    let few_z = at_most_one (fixed_at g q).z (FixZ q one_signal) in
-    let old = few_fixes g qs in
     omega arith
 
 pub flow_pattern_fits : (g : OpenGraph) (sets : ℕ → Bits) (layer : ℕ → ℕ) → IsOpenGraph g →

@@ -1,5 +1,4 @@
 pub mod SetSums
-pub mod FixedCorrections
 pub mod GraphStates
 pub mod MeasuringOrder
 pub mod OrderLists
@@ -12,3 +11,4 @@ pub mod FlowSignals
 pub mod ChosenFlows
 pub mod FlowSizes
 pub mod MadePatterns
+pub mod MadeCommands

@@ -66,3 +66,11 @@ parity-numbers_where p (suc n) x =
     ∙ parity-append (numbers_where p n) (cond (p n) (n ∷ []) []) x
     ∙ ap₂ (λ (a b : Bool). a ⊻ b) (parity-numbers_where p n x) (parity-one n x (p n))
     ∙ xor_comm (odd n (λ k. p k && x k)) (p n && x n)
+
+and_either : (a b : Bool) → a && b ≡ b && a
+and_either a b = grind arith
+
+pub parity-where : (p x : Bits) (n : ℕ) → parity (numbers_where p n) x ≡ odd n (λ k. x k && p k)
+parity-where p x n =
+    parity-numbers_where p n x
+    ∙ odd-same n (λ k. p k && x k) (λ k. x k && p k) (λ k l. and_either (p k) (x k))

@@ -52,10 +52,6 @@ abbrev pub FlowPatternsFit : Type 0
 FlowPatternsFit = (g : OpenGraph) (sets : ℕ → Bits) (layer : ℕ → ℕ) → IsOpenGraph g →
     length (flow_pattern g sets layer).commands ≤ most_commands
 
--- the pattern without a flow is valid
-abbrev pub ZeroPatternsAreValid : Type 0
-ZeroPatternsAreValid = (g : OpenGraph) → IsOpenGraph g → IsValidPattern (zero_pattern g)
-
 -- the pattern of a flow has the scale of the pattern without a flow
 abbrev pub FlowPatternsKeepScale : Type 0
 FlowPatternsKeepScale = (g : OpenGraph) (sets : ℕ → Bits) (layer : ℕ → ℕ) →

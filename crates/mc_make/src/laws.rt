@@ -6,7 +6,6 @@ ghost use Rattle.mc_make.specs.Laws.{FlowPatternsAreDeterministic, FlowPatternsA
 ghost use Rattle.mc_make.specs.Laws.{FlowPatternsAreValid, FlowPatternsFit};
 ghost use Rattle.mc_make.specs.Laws.{FlowPatternsHaveNoConstants, FlowPatternsKeepScale};
 ghost use Rattle.mc_make.specs.Laws.{MeasuringOrderFalls, ZeroBranchOfFlowPattern};
-ghost use Rattle.mc_make.specs.Laws.{ZeroPatternsAreValid};
 
 use mc_graph::graphs_keep_zero_branch;
 
@@ -29,11 +28,6 @@ pub fn measuring_order_falls()
 /// The pattern of a flow is valid.
 pub fn flow_patterns_are_valid()
     ensures { FlowPatternsAreValid }
-{}
-
-/// The pattern of an open graph without a flow is valid.
-pub fn zero_patterns_are_valid()
-    ensures { ZeroPatternsAreValid }
 {}
 
 /// The pattern of a flow prepares and measures as many qubits as the graph's pattern without a

@@ -1,5 +1,0 @@
-use Rattle.mc_make.proofs.ValidPatterns.{zero_patterns_valid}
-use Rattle.mc_make.proofs.laws.zero_patterns_are_valid.Goals as goal
-
-pub returns : goal.returns
-returns c = zero_patterns_valid
