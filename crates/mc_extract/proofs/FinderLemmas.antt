@@ -17,16 +17,16 @@ use Rattle.mc_model.specs.Graph.{OpenGraph, size, is_output, joins}
 use Rattle.mc_model.specs.Flow.{IsStuckSet}
 use Rattle.mc_model.specs.Choice.{CorrectsCausally, IsLeastCausalLayer, IsChosenCausalFlow}
 use Rattle.mc_model.specs.Choice.{IsChosenStuckSet}
-use Rattle.mc_model.proofs.Refutation.{stuck}
 use Rattle.mc_make.proofs.MeasuringOrder.{IsWhere, where_all, all-weaker}
 use Rattle.mc_extract.specs.declared.found.Found.{Found}
-use Rattle.mc_extract.specs.Rounds.{sole, is_some_of, neighbours, taken_vertex, corrector}
+use Rattle.mc_graph.specs.Neighbours.{neighbours}
+use Rattle.mc_extract.specs.Rounds.{sole, is_some_of, taken_vertex, corrector}
 use Rattle.mc_extract.specs.Rounds.{rest_after, layer_after, next_after, IsSettled, IsAllTaken}
 use Rattle.mc_extract.specs.Finder.{unfound, left_in, layer_in, next_in, with_taker, found_after}
-use Rattle.mc_extract.specs.Finder.{all_found, IsAtEnd, SameLeft, IsFoundFlow, IsFoundStuck}
+use Rattle.mc_extract.specs.Finder.{all_found, IsAtEnd, SameLeft}
 use Rattle.mc_extract.proofs.Places.{find_cases, find_least}
 use Rattle.mc_extract.proofs.Rounds.{find-same, corrector-same, left_within, chosen_stuck_set}
-use Rattle.mc_extract.proofs.Rounds.{chosen_causal_flow, same_or_other, chosen_is_flow, settled_on}
+use Rattle.mc_extract.proofs.Rounds.{chosen_causal_flow, same_or_other, settled_on}
 use Rattle.mc_extract.proofs.Rounds.{rounds_settle}
 
 -- ---- a list with two elements that pass
@@ -233,7 +233,7 @@ stuck_same g A B same s =
           });
     }
 
-chosen_stuck_same : (g : OpenGraph) (A B : Bits) → ((v : ℕ) → v < size g → A v ≡ B v) →
+pub chosen_stuck_same : (g : OpenGraph) (A B : Bits) → ((v : ℕ) → v < size g → A v ≡ B v) →
     IsChosenStuckSet g A → IsChosenStuckSet g B
 chosen_stuck_same g A B same c = record {
   stuck = stuck_same g A B same c.stuck;
@@ -254,23 +254,24 @@ corrects_same g layer layer' same u w l c =
           let there = same v lv in let h = c.others_later v lv ne j in omega arith;
     }
 
-chosen_flow_same : (g : OpenGraph) (next next' layer layer' : ℕ → ℕ) →
-    ((v : ℕ) → v < size g → next v ≡ next' v) → ((v : ℕ) → v < size g → layer v ≡ layer' v) →
+pub chosen_flow_same : (g : OpenGraph) (next next' layer layer' : ℕ → ℕ) →
+    ((v : ℕ) → v < size g → is_output g v ≡ false → next v ≡ next' v) →
+    ((v : ℕ) → v < size g → layer v ≡ layer' v) →
     IsChosenCausalFlow g next layer → IsChosenCausalFlow g next' layer'
 chosen_flow_same g next next' layer layer' same_next same c = record {
   least_layers = λ v l.
       subst (IsLeastCausalLayer g v) (same v l) (c.least_layers v l);
   corrects = λ u l out.
       corrects_same g layer layer' same u (next' u) l
-      (subst (CorrectsCausally g layer u) (same_next u l) (c.corrects u l out));
+      (subst (CorrectsCausally g layer u) (same_next u l out) (c.corrects u l out));
   least = λ u w l out h.
       let low = c.least u w l out
       (corrects_same g layer' layer (λ v lv. sym (same v lv)) u w l h) in
-      let e = same_next u l in
+      let e = same_next u l out in
       omega arith;
 }
 
-stuck_chosen : (g : OpenGraph) (found : List Found) → IsAtEnd g found →
+pub stuck_chosen : (g : OpenGraph) (found : List Found) → IsAtEnd g found →
     list_any (λ (one : Found). one.left) found ≡ true → IsChosenStuckSet g (left_in found)
 stuck_chosen g found at some = elim (same_or_other (rest_after g k) (λ v. false) (size g)) [
   | inl none ↦
@@ -286,16 +287,10 @@ stuck_chosen g found at some = elim (same_or_other (rest_after g k) (λ v. false
     k : ℕ
     k = at.rounds
 
-pub stuck_answer : (g : OpenGraph) (found : List Found) → IsAtEnd g found →
-    list_any (λ (one : Found). one.left) found ≡ true → IsFoundStuck g (left_in found)
-stuck_answer g found at some =
-    let chosen = stuck_chosen g found at some in
-    record { chosen = chosen; no_flow = stuck g (left_in found) chosen.stuck }
-
-pub flow_answer : (g : OpenGraph) (found : List Found) → IsAtEnd g found →
+pub flow_chosen : (g : OpenGraph) (found : List Found) → IsAtEnd g found →
     list_any (λ (one : Found). one.left) found ≡ false →
-    IsFoundFlow g (next_in found) (layer_in found)
-flow_answer g found at none =
+    IsChosenCausalFlow g (next_in found) (layer_in found)
+flow_chosen g found at none =
     let k : ℕ = at.rounds in
     let all : IsAllTaken g k = λ v l.
     any_left g k 0 (size g) (sym (ap (list_any (λ (one : Found). one.left)) at.all) ∙ none) v
@@ -303,12 +298,10 @@ flow_answer g found at none =
     let read : (v : ℕ) → v < size g → found_after g k v ≡ slice_index_or found v unfound = λ v l.
     sym (ap (λ (xs : List Found). slice_index_or xs v unfound) at.all
     ∙ read_number (found_after g k) (size g) v unfound l) in
-    let chosen : IsChosenCausalFlow g (next_in found) (layer_in found) =
     chosen_flow_same g (next_after g k) (next_in found) (layer_after g k) (layer_in found)
-    (λ v l. ap (λ (one : Found). one.next) (read v l))
+    (λ v l out. ap (λ (one : Found). one.next) (read v l))
     (λ v l. ap (λ (one : Found). one.layer) (read v l))
-    (chosen_causal_flow g k all) in
-    record { flow = chosen_is_flow g (next_in found) (layer_in found) chosen; chosen = chosen }
+    (chosen_causal_flow g k all)
 
 -- a round that takes nothing is the last
 pub at_end_alike : (g : OpenGraph) (k : ℕ) (found later : List Found) → found ≡ all_found g k →

@@ -263,7 +263,7 @@ triangle_rises n (suc m) =
     let h = triangle_rises n m in
     rw e (omega arith)
 
-below_step : (m k : ℕ) → nat_lt k (suc m) ≡ nat_lt k m ⊻ nat_eq k m
+pub below_step : (m k : ℕ) → nat_lt k (suc m) ≡ nat_lt k m ⊻ nat_eq k m
 below_step m k = elim (cases_order k m) [
   | inl e ↦
       rw (lt-ltb k (suc m) (omega arith), le-ltb k m (omega arith), eq-eqb k m e)

@@ -10,7 +10,7 @@ use Rattle.mc_model.specs.Graph.{OpenGraph, size, joins}
 use Rattle.mc_model.specs.Flow.{IsCausalFlow}
 use Rattle.mc_model.specs.Made.{is_first, is_current}
 use Rattle.mc_model.proofs.BitLemmas.{replaced_same, replaced_other}
-use Rattle.mc_extract.specs.Rounds.{neighbours}
+use Rattle.mc_graph.specs.Neighbours.{neighbours}
 use Rattle.mc_extract.proofs.Passing.{IsNextToPass, current_next, current_step, not_current}
 use Rattle.mc_extract.proofs.Wires.{current_first}
 use Rattle.mc_extract.proofs.EdgeSigns.{neighbours_now}

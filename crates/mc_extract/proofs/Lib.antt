@@ -13,6 +13,12 @@ pub mod CircuitScale
 pub mod Rounds
 pub mod FinderLemmas
 pub mod GateSteps
-pub mod SampleRows
 pub mod ChainLists
 pub mod Unique
+pub mod MadeRows
+pub mod FoundRows
+pub mod CausalRows
+pub mod EdgeRows
+pub mod Counts
+pub mod GateLists
+pub mod WholeCircuits

@@ -1,14 +1,10 @@
--- What the finder holds of the vertices, and its answer.
+-- What the finder holds of the vertices.
 use Rattle.std.specs.Prelude.{◌≡◌, ℕ, ◌<◌, false, cond, List, map, length, unwrap_or, is_none}
 use Rattle.std.specs.Prelude.{slice_index_or, Option}
 use Rattle.mc_model.specs.Numbers.{numbers_from}
 use Rattle.mc_model.specs.Bits.{Bits}
-use Rattle.mc_model.specs.Graph.{OpenGraph, size}
-use Rattle.mc_model.specs.Flow.{IsCausalFlow}
-use Rattle.mc_model.specs.Choice.{IsChosenCausalFlow, IsChosenStuckSet}
+use Rattle.mc_model.specs.Graph.{OpenGraph, size, is_output}
 use Rattle.mc_extract.specs.declared.found.Found.{Found}
-use Rattle.mc_extract.specs.declared.causal.Causal.{Causal}
-use Rattle.mc_extract.specs.declared.causal.Causal.TheVariants as causal
 use Rattle.mc_extract.specs.Rounds.{rest_after, layer_after, next_after, IsSettled}
 
 -- a vertex of which nothing was found
@@ -51,16 +47,6 @@ pub record IsAtEnd (g : OpenGraph) (found : List Found) : Type 0 where
   pub all : found ≡ all_found g rounds
   pub settled : IsSettled g rounds
 
--- a causal flow, the chosen one
-pub record IsFoundFlow (g : OpenGraph) (next layer : ℕ → ℕ) : Type 0 where
-  pub flow : IsCausalFlow g next layer
-  pub chosen : IsChosenCausalFlow g next layer
-
--- the chosen stuck set, and no causal flow
-pub record IsFoundStuck (g : OpenGraph) (B : Bits) : Type 0 where
-  pub chosen : IsChosenStuckSet g B
-  pub no_flow : (next layer : ℕ → ℕ) → IsCausalFlow g next layer → ⊥
-
-abbrev pub IsAnswer : OpenGraph → Causal → Type 0
-IsAnswer g (causal.Flow found) = IsFoundFlow g (next_in found.items) (layer_in found.items)
-IsAnswer g (causal.Stuck found) = IsFoundStuck g (left_in found.items)
+-- each vertex that is no output has a vertex as its next
+abbrev pub HasNexts : OpenGraph → List Found → Type 0
+HasNexts g found = (u : ℕ) → u < size g → is_output g u ≡ false → next_in found u < size g

@@ -12,6 +12,7 @@ use Rattle.mc_model.specs.Graph.{fixed_corrections, zero_pattern}
 use Rattle.mc_model.specs.Flow.{IsCausalFlow}
 use Rattle.mc_model.specs.Choice.{IsChosenCausalFlow, IsChosenStuckSet}
 use Rattle.mc_model.specs.Made.{extracted_circuit}
+use Rattle.mc_graph.specs.Flows.{FlowRows, layer_in, next_in, IsCausalFlowOf}
 use Rattle.mc_extract.specs.Rounds.{rest_after, layer_after, next_after, IsAllTaken}
 
 -- whatever the causal flow, the circuit has the table that is the graph's zero branch, doubled for
@@ -67,6 +68,11 @@ abbrev pub CircuitsAreExtracted : Type 0
 CircuitsAreExtracted = (half : ℕ) → 0 < half → (p : Pattern) → IsValidPattern p →
     (next layer : ℕ → ℕ) → IsCausalFlow (graph_of half p) next layer →
     IsExtractedFrom half p (extracted_circuit half (graph_of half p) next layer)
+
+-- the first members of the sets of a causal flow are its nexts
+abbrev pub FirstMembersAreNexts : Type 0
+FirstMembersAreNexts = (g : OpenGraph) (f : FlowRows) → IsCausalFlowOf g f →
+    IsCausalFlow g (next_in f.rows) (layer_in f.rows)
 
 -- ---- the finder
 

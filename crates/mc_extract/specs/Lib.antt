@@ -1,5 +1,8 @@
 pub mod Laws
 pub mod Rounds
 pub mod Finder
-pub mod Samples
 pub mod Chains
+pub mod Answers
+pub mod Extracted
+pub mod Rows
+pub mod Written

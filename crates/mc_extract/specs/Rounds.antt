@@ -2,19 +2,16 @@
 use Rattle.std.specs.Prelude.{◌≡◌, ℕ, zero, suc, ◌+◌, ◌<◌, Bool, false, cond, not, ◌&&◌, ◌||◌}
 use Rattle.std.specs.Prelude.{nat_eq, filter, List, [], ◌∷◌, find, unwrap_or, is_none, Option, Some}
 use Rattle.std.specs.Prelude.{None}
-use Rattle.mc_model.specs.Numbers.{numbers_from, numbers_where}
+use Rattle.mc_model.specs.Numbers.{numbers_from}
 use Rattle.mc_model.specs.Bits.{Bits}
-use Rattle.mc_model.specs.Graph.{OpenGraph, size, is_input, is_output, joins}
+use Rattle.mc_model.specs.Graph.{OpenGraph, size, is_input, is_output}
+use Rattle.mc_graph.specs.Neighbours.{neighbours}
 
 -- the element of a list that has just one
 abbrev pub sole : List ℕ → Option ℕ
 sole [] = None
 sole (u ∷ []) = Some u
 sole (u ∷ v ∷ vs) = None
-
--- the neighbours of a vertex, rising
-abbrev pub neighbours : OpenGraph → ℕ → List ℕ
-neighbours g w = numbers_where (joins g.edges w) (size g)
 
 -- the only neighbour of `w` in the set
 abbrev pub only_neighbour : OpenGraph → Bits → ℕ → Option ℕ

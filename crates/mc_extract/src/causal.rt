@@ -1,11 +1,10 @@
 //! The answer of the finder.
 
-use crate::found::Found;
+use mc_graph::{GFlow, Stuck};
 
-/// The chosen causal flow, by the layer and the next of each vertex; or the chosen stuck set, the
-/// vertices that are left.
-#[derive(Debug, Drop)]
+/// What a graph has: a causal flow, or vertices of which no causal flow corrects a first.
+#[derive(Drop)]
 pub enum Causal {
-    Flow(Vec<Found>),
-    Stuck(Vec<Found>),
+    Flow(GFlow),
+    Stuck(Stuck),
 }

@@ -2,20 +2,18 @@
 
 ghost use Rattle.std.specs.Prelude.{◌≡◌, ◌<◌, ◌≤◌, ◌+◌, not, true, All, IfOk, None, find, filter};
 ghost use Rattle.std.specs.Prelude.{map, length, slice_index_or};
-ghost use Rattle.std.specs.List.{list_any};
 ghost use Rattle.mc_model.specs.Numbers.{numbers_from};
 ghost use Rattle.mc_model.specs.Graph.{size};
 ghost use Rattle.mc_extract.specs.Rounds.{sole, is_some_of, taken_vertex};
-ghost use Rattle.mc_extract.specs.Finder.{left_in, with_taker, all_found, IsAtEnd, IsAnswer};
+ghost use Rattle.mc_extract.specs.Finder.{left_in, with_taker, all_found, IsAtEnd};
 ghost use Rattle.mc_extract.specs.Finder.{SameLeft};
 
-use crate::adjacency::Adjacency;
-use crate::causal::Causal;
 use crate::found::Found;
+use mc_graph::OpenGraph;
 use mc_model::Memory;
 use std::alloc::Global;
 
-fn is_left(found: &[Found], v: u16) -> bool
+pub(crate) fn is_left(found: &[Found], v: u16) -> bool
     requires { v < length found.now }
     ensures { result ≡ left_in found.now v }
 {
@@ -40,10 +38,10 @@ fn only_left(found: &[Found], row: &[u16]) -> Option<u16>
 }
 
 /// The vertex that a vertex takes, if it takes one.
-fn taken_by<G: Adjacency>(g: &G, found: &[Found], w: u16) -> Option<u16>
-    requires vertex { w < size (G.graph g.now) }
-    requires all { length found.now ≡ size (G.graph g.now) }
-    ensures { result ≡ taken_vertex (G.graph g.now) (left_in found.now) w }
+fn taken_by<const H: usize>(g: &OpenGraph<H>, found: &[Found], w: u16) -> Option<u16>
+    requires vertex { w < size g.now }
+    requires all { length found.now ≡ size g.now }
+    ensures { result ≡ taken_vertex g.now (left_in found.now) w }
 {
     if w < g.inputs() || is_left(found, w) {
         None
@@ -53,14 +51,14 @@ fn taken_by<G: Adjacency>(g: &G, found: &[Found], w: u16) -> Option<u16>
 }
 
 /// The vertex that each vertex takes.
-fn all_taken<G: Adjacency>(
+fn all_taken<const H: usize>(
     alloc: Global,
-    g: &G,
+    g: &OpenGraph<H>,
     found: &[Found],
 ) -> Result<Vec<Option<u16>>, Memory>
-    requires { length found.now ≡ size (G.graph g.now) }
+    requires { length found.now ≡ size g.now }
     ensures { IfOk result (λ taken. taken.items
-        ≡ map (taken_vertex (G.graph g.now) (left_in found.now)) (numbers_from 0 (size (G.graph g.now)))) }
+        ≡ map (taken_vertex g.now (left_in found.now)) (numbers_from 0 (size g.now))) }
 {
     let mut taken = Vec::new(alloc);
     'vertices: for w in 0..g.len() {
@@ -111,15 +109,15 @@ fn in_round(found: Found, round: u16, taker: Option<u16>) -> Found
 }
 
 /// What is found in one more round.
-fn one_round<G: Adjacency>(
+fn one_round<const H: usize>(
     alloc: Global,
-    g: &G,
+    g: &OpenGraph<H>,
     found: &[Found],
     rounds: u16,
 ) -> Result<Vec<Found>, Memory>
-    requires found { found.now ≡ all_found (G.graph g.now) rounds }
-    requires more { rounds < size (G.graph g.now) }
-    ensures { IfOk result (λ later. later.items ≡ all_found (G.graph g.now) (rounds + 1)) }
+    requires found { found.now ≡ all_found g.now rounds }
+    requires more { rounds < size g.now }
+    ensures { IfOk result (λ later. later.items ≡ all_found g.now (rounds + 1)) }
 {
     let taken = all_taken(alloc, g, found)?;
     let count = g.len();
@@ -146,8 +144,8 @@ fn first_found(is_output: bool) -> Found
 }
 
 /// What is found before the first round.
-fn begun<G: Adjacency>(alloc: Global, g: &G) -> Result<Vec<Found>, Memory>
-    ensures { IfOk result (λ found. found.items ≡ all_found (G.graph g.now) 0) }
+fn begun<const H: usize>(alloc: Global, g: &OpenGraph<H>) -> Result<Vec<Found>, Memory>
+    ensures { IfOk result (λ found. found.items ≡ all_found g.now 0) }
 {
     let mut found = Vec::new(alloc);
     'vertices: for v in 0..g.len() {
@@ -172,35 +170,17 @@ fn are_left_alike(found: &[Found], later: &[Found]) -> bool
     true
 }
 
-fn has_left(found: &[Found]) -> bool
-    ensures { result ≡ list_any (λ one. one.left) found.now }
-{
-    found.iter().any(|one| one.left)
-}
-
-/// The answer when nothing more can be taken.
-fn answer<G: Adjacency>(g: &G, found: Vec<Found>) -> Causal
-    requires { IsAtEnd (G.graph g.now) found.items }
-    ensures { IsAnswer (G.graph g.now) result }
-{
-    if has_left(&found) {
-        Causal::Stuck(found)
-    } else {
-        Causal::Flow(found)
-    }
-}
-
-/// The chosen causal flow of a graph, or where it has none its chosen stuck set.
-pub fn find_causal<G: Adjacency>(alloc: Global, g: &G) -> Result<Causal, Memory>
-    ensures { IfOk result (λ causal. IsAnswer (G.graph g.now) causal) }
+/// What is found of each vertex when nothing more can be taken.
+pub(crate) fn search<const H: usize>(alloc: Global, g: &OpenGraph<H>) -> Result<Vec<Found>, Memory>
+    ensures { IfOk result (λ found. IsAtEnd g.now found.items) }
 {
     let mut found = begun(alloc, g)?;
     'rounds: for rounds in 0..g.len() {
         let later = one_round(alloc, g, &found, rounds)?;
         if are_left_alike(&found, &later) {
-            return Ok(answer(g, later));
+            return Ok(later);
         }
         found = later;
     }
-    Ok(answer(g, found))
+    Ok(found)
 }

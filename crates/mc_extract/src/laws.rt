@@ -4,7 +4,7 @@ ghost use Rattle.mc_extract.specs.Laws.{ChosenCausalFlowsAreFlows, ChosenCausalF
 ghost use Rattle.mc_extract.specs.Laws.{ChosenStuckSetsAreUnique, CircuitsAreExtracted};
 ghost use Rattle.mc_extract.specs.Laws.{ExtractedCircuitHasTable, ExtractedCircuitScale};
 ghost use Rattle.mc_extract.specs.Laws.{ExtractedCircuitsAreValid, ExtractedGatesAreEdges};
-ghost use Rattle.mc_extract.specs.Laws.{RoundsFindCausalFlow};
+ghost use Rattle.mc_extract.specs.Laws.{FirstMembersAreNexts, RoundsFindCausalFlow};
 
 use mc_graph::{graphs_keep_zero_branch, graphs_without_constants};
 
@@ -38,6 +38,11 @@ pub fn circuits_are_extracted()
     graphs_keep_zero_branch();
     graphs_without_constants();
 }
+
+/// The first members of the sets of a causal flow are its nexts.
+pub fn first_members_are_nexts()
+    ensures { FirstMembersAreNexts }
+{}
 
 /// The rounds of the finder give the chosen causal flow where there is one, and else the chosen
 /// stuck set.

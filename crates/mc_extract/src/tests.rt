@@ -1,73 +1,56 @@
-ghost use Rattle.std.specs.Prelude.{◌≡◌, [], ◌∷◌};
-
 use super::*;
+use mc_circuit::Gate;
+use mc_graph::{Angle, GraphBuilder, Name, Names, OpenGraph};
+use std::alloc::Global;
 use std::process::Abort;
 use std::test::Fail;
 
-/// Three vertices in a row, from an input to an output.
-#[derive(Drop)]
-struct Chain {
-    end: [u16; 1],
-    middle: [u16; 2],
-    ghost end_row: { end ≡ 1 ∷ [] },
-    ghost middle_row: { middle ≡ 0 ∷ 2 ∷ [] },
+fn name(rt: &impl Abort, word: &str) -> Name {
+    Name::read(word.as_bytes()).expect(rt, "a name")
 }
 
-impl Adjacency for Chain {
-    ghost use Rattle.mc_extract.specs.Samples.{chain};
-
-    ghost graph = { λ _. chain };
-
-    fn len(&self) -> u16 {
-        3
-    }
-
-    fn inputs(&self) -> u16 {
-        1
-    }
-
-    fn is_output(&self, v: u16) -> bool {
-        v == 2
-    }
-
-    fn neighbours(&self, v: u16) -> &[u16] {
-        if v == 1 {
-            self.middle.as_slice()
-        } else {
-            self.end.as_slice()
-        }
+/// From the input `a` to the output `b`, measured at an eighth, and two outputs that are joined: `b` and `c`.
+fn joined(rt: &impl Abort, alloc: Global) -> Result<OpenGraph<4>, Fail> {
+    let mut inputs = Names::new(alloc);
+    assert_eq!(rt; inputs.add(name(rt, "a")), Ok(0));
+    let mut builder: GraphBuilder<4> = GraphBuilder::new(alloc, inputs)?;
+    assert_eq!(rt; builder.vertex(name(rt, "b")), Ok(1));
+    assert_eq!(rt; builder.vertex(name(rt, "c")), Ok(2));
+    assert_eq!(rt; builder.edge(0, 1), Ok(()));
+    assert_eq!(rt; builder.edge(1, 2), Ok(()));
+    assert_eq!(rt; builder.angle(0, Angle::of(1)), Ok(()));
+    match builder.finish(alloc, &[1, 2]) {
+        Ok(graph) => Ok(graph),
+        Err((_, end)) => Err(Fail::from(end)),
     }
 }
 
 #[test]
-fn finds_the_flow_of_a_chain(rt: HostRuntime) -> Result<(), Fail> {
-    let chain = Chain {
-        end: [1],
-        middle: [0, 2],
-    };
-    match find_causal(rt.alloc(), &chain)? {
-        Causal::Flow(found) => match found.as_slice() {
-            [first, second, last] => {
-                assert_eq!(rt; (first.layer, first.next), (2, 1));
-                assert_eq!(rt; (second.layer, second.next), (1, 2));
-                assert_eq!(rt; last.layer, 0);
+fn extracts_by_the_flow(rt: HostRuntime) -> Result<(), Fail> {
+    let alloc = rt.alloc();
+    let graph = joined(&rt, alloc)?;
+    assert_eq!(rt; gates_to_extract(&graph), 2);
+    match find_causal(alloc, &graph)? {
+        Causal::Flow(flow) => {
+            assert_eq!(rt; (flow.depth(), flow.len()), (1, 1));
+            if gates_to_extract(&graph) <= 32_768 {
+                let circuit = extract(alloc, &graph, &flow)?;
+                assert_eq!(rt; circuit.names().len(), 2);
+                assert_eq!(rt; circuit.out(), [0, 1].as_slice());
+                assert_eq!(rt;
+                    circuit.gates(),
+                    [
+                        Gate::J {
+                            wire: 0,
+                            angle: Angle::of(7)
+                        },
+                        Gate::Cz { a: 0, b: 1 },
+                    ]
+                    .as_slice()
+                );
             }
-            _ => assert!(rt; false),
-        },
+        }
         Causal::Stuck(_) => assert!(rt; false),
     }
-    Ok(())
-}
-
-#[test]
-fn orders_and_wires_a_chain(rt: HostRuntime) -> Result<(), Fail> {
-    let chain = Chain {
-        end: [1],
-        middle: [0, 2],
-    };
-    let order = order_of(rt.alloc(), &chain, &[2, 1, 0])?;
-    assert_eq!(rt; order.as_slice(), [0, 1].as_slice());
-    let wires = wires_of(rt.alloc(), &chain, &[1, 2, 0])?;
-    assert_eq!(rt; wires.as_slice(), [0, 0, 0].as_slice());
     Ok(())
 }

@@ -10,5 +10,5 @@ vertices-preserved g c =
     c.in-Ok.ensures.items
     ∙ ap₂ (λ (os : List (Option ℕ)) (o : Option ℕ). os ++ (o ∷ [])) c.vertices.invariant
     c.taken_by-one.ensures
-    ∙ sym (map_more (taken_vertex (g.G.Adjacency.graph c.args.g.now) (left_in c.args.found.now))
+    ∙ sym (map_more (taken_vertex c.args.g.now (left_in c.args.found.now))
     c.vertices.w)

@@ -7,4 +7,4 @@ use Rattle.mc_extract.proofs.finder.all_taken.Given as goal
 abbrev pub invariant-vertices : goal.invariant-vertices
 invariant-vertices g l =
     l.taken.items
-    ≡ map (taken_vertex (g.G.Adjacency.graph l.g) (left_in l.found)) (numbers_from 0 l.w)
+    ≡ map (taken_vertex l.g (left_in l.found)) (numbers_from 0 l.w)

@@ -9,6 +9,6 @@ vertices-preserved g c =
     let one = c.first_found-one.ensures in
     c.in-Ok.ensures.items
     ∙ ap₂ (λ (xs : List Found) (x : Found). xs ++ (x ∷ [])) c.vertices.invariant
-    (begun_at (g.G.Adjacency.graph c.args.g.now) c.vertices.v c.first_found-one.result
+    (begun_at c.args.g.now c.vertices.v c.first_found-one.result
     (one.left ∙ ap not c.is_output.ensures) one.layer one.next)
-    ∙ sym (map_more (found_after (g.G.Adjacency.graph c.args.g.now) 0) c.vertices.v)
+    ∙ sym (map_more (found_after c.args.g.now 0) c.vertices.v)

@@ -5,4 +5,4 @@ use Rattle.mc_extract.proofs.finder.begun.Given as goal
 
 abbrev pub invariant-vertices : goal.invariant-vertices
 invariant-vertices g l =
-    l.found.items ≡ map (found_after (g.G.Adjacency.graph l.g) 0) (numbers_from 0 l.v)
+    l.found.items ≡ map (found_after l.g 0) (numbers_from 0 l.v)

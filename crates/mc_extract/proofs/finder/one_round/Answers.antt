@@ -5,29 +5,31 @@ use Rattle.mc_extract.proofs.FinderLemmas.{length_found, length_taken, map_more,
 use Rattle.mc_extract.proofs.finder.one_round.Goals as goal
 
 pub all_taken-requires : goal.all_taken-requires
-all_taken-requires g c =
-    length_found (g.G.Adjacency.graph c.args.g.now) c.args.rounds c.args.found.now c.requires.found
+all_taken-requires g c = (
+  omega arith,
+  length_found c.args.g.now c.args.rounds c.args.found.now c.requires.found,
+)
 
 pub bounds-found-v : goal.bounds-found-v
 bounds-found-v g c =
-    let long = length_found (g.G.Adjacency.graph c.args.g.now) c.args.rounds c.args.found.now
+    let long = length_found c.args.g.now c.args.rounds c.args.found.now
     c.requires.found in
-    let count = c.len-count.ensures in
+    let count = c.len-count.ensures.len in
     let below = c.vertices-test.true in
     omega arith
 
 pub taker_of-requires : goal.taker_of-requires
 taker_of-requires g c =
-    c.len-count.ensures
-    ∙ sym (length_taken (g.G.Adjacency.graph c.args.g.now) (left_in c.args.found.now)
+    c.len-count.ensures.len
+    ∙ sym (length_taken c.args.g.now (left_in c.args.found.now)
     c.deref.result.now (c.deref.ensures.value ∙ c.in_ok-taken.ensures))
 
 pub vertices-preserved : goal.vertices-preserved
 vertices-preserved g c =
     c.in-Ok.ensures.items
     ∙ ap₂ (λ (xs : List Found) (x : Found). xs ++ (x ∷ [])) c.vertices.invariant
-    (round_made (g.G.Adjacency.graph c.args.g.now) c.args.rounds c.vertices.v c.len-count.result
-    c.args.found.now c.deref.result.now _ c.vertices-test.true c.len-count.ensures c.requires.found
+    (round_made c.args.g.now c.args.rounds c.vertices.v c.len-count.result
+    c.args.found.now c.deref.result.now _ c.vertices-test.true c.len-count.ensures.len c.requires.found
     (c.deref.ensures.value ∙ c.in_ok-taken.ensures) c.taker_of.ensures c.in_round-one.ensures)
-    ∙ sym (map_more (found_after (g.G.Adjacency.graph c.args.g.now) (c.args.rounds + 1))
+    ∙ sym (map_more (found_after c.args.g.now (c.args.rounds + 1))
     c.vertices.v)

@@ -5,4 +5,4 @@ use Rattle.mc_extract.proofs.finder.one_round.Given as goal
 
 abbrev pub invariant-vertices : goal.invariant-vertices
 invariant-vertices g l =
-    l.later.items ≡ map (found_after (g.G.Adjacency.graph l.g) (l.rounds + 1)) (numbers_from 0 l.v)
+    l.later.items ≡ map (found_after l.g (l.rounds + 1)) (numbers_from 0 l.v)

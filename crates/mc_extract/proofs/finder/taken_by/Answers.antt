@@ -7,5 +7,5 @@ use Rattle.mc_extract.proofs.finder.taken_by.Goals as goal
 pub only_left-requires : goal.only_left-requires
 only_left-requires g c =
     subst₂ (λ (n : ℕ) (row : List ℕ). All (λ v. v < n) row) (sym c.requires.all)
-    (sym c.neighbours.ensures)
-    (neighbours_below (g.G.Adjacency.graph c.args.g.now) c.args.w)
+    (sym c.neighbours.ensures.row)
+    (neighbours_below c.args.g.now c.args.w)

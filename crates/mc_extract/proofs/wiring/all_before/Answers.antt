@@ -10,5 +10,5 @@ vertices-preserved g c =
     c.in-Ok.ensures.items
     ∙ ap₂ (λ (os : List (Option ℕ)) (o : Option ℕ). os ++ (o ∷ [])) c.vertices.invariant
     c.before_one-one.ensures
-    ∙ sym (map_more (last_before (g.G.Adjacency.graph c.args.g.now) (number_at c.args.next.now))
+    ∙ sym (map_more (last_before c.args.g.now (number_at c.args.next.now))
     c.vertices.v)

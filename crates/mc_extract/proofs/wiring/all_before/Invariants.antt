@@ -7,4 +7,4 @@ use Rattle.mc_extract.proofs.wiring.all_before.Given as goal
 abbrev pub invariant-vertices : goal.invariant-vertices
 invariant-vertices g l =
     l.before.items
-    ≡ map (last_before (g.G.Adjacency.graph l.g) (number_at l.next)) (numbers_from 0 l.v)
+    ≡ map (last_before l.g (number_at l.next)) (numbers_from 0 l.v)

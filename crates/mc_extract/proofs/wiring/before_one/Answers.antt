@@ -6,15 +6,15 @@ use Rattle.mc_extract.proofs.wiring.before_one.Goals as goal
 
 pub returns-then-precedes : goal.returns-then-precedes
 returns-then-precedes g c =
-    let count = c.len-u-end.ensures in
+    let count = c.len-u-end.ensures.len in
     let below = c.vertices-test.true in
-    found_first (is_before (g.G.Adjacency.graph c.args.g.now) (number_at c.args.next.now) c.args.v)
-    (size (g.G.Adjacency.graph c.args.g.now)) c.vertices.u (omega arith)
+    found_first (is_before c.args.g.now (number_at c.args.next.now) c.args.v)
+    (size c.args.g.now) c.vertices.u (omega arith)
     (sym c.precedes.ensures ∙ c.if-precedes.true) c.vertices.invariant
 
 pub returns : goal.returns
 returns g c =
-    let count = c.len-u-end.ensures in
+    let count = c.len-u-end.ensures.len in
     let ended = c.vertices-test.false in
-    found_none (is_before (g.G.Adjacency.graph c.args.g.now) (number_at c.args.next.now) c.args.v)
-    (size (g.G.Adjacency.graph c.args.g.now)) (λ k l. c.vertices.invariant k (omega arith))
+    found_none (is_before c.args.g.now (number_at c.args.next.now) c.args.v)
+    (size c.args.g.now) (λ k l. c.vertices.invariant k (omega arith))

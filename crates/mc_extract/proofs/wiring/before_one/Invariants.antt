@@ -5,4 +5,4 @@ use Rattle.mc_extract.proofs.wiring.before_one.Given as goal
 abbrev pub invariant-vertices : goal.invariant-vertices
 invariant-vertices g l =
     (k : ℕ) → k < l.u →
-    is_before (g.G.Adjacency.graph l.g) (number_at l.next) l.v k ≡ false
+    is_before l.g (number_at l.next) l.v k ≡ false

@@ -6,4 +6,4 @@ use Rattle.mc_extract.proofs.wiring.wires_of.Given as goal
 
 abbrev pub invariant-vertices : goal.invariant-vertices
 invariant-vertices g l =
-    l.wires.items ≡ map (wire_of (g.G.Adjacency.graph l.g) (number_at l.next)) (numbers_from 0 l.v)
+    l.wires.items ≡ map (wire_of l.g (number_at l.next)) (numbers_from 0 l.v)

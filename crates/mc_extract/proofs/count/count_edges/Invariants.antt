@@ -1,0 +1,11 @@
+use Rattle.std.proofs.Common.{◌≡◌, ◌*◌, ◌≤◌, length}
+use Rattle.std.specs.Prelude.{flat_map}
+use Rattle.mc_model.specs.Numbers.{numbers_from}
+use Rattle.mc_graph.specs.Neighbours.{edges_up}
+use Rattle.mc_extract.proofs.count.count_edges.Given as goal
+
+abbrev pub invariant-vertices : goal.invariant-vertices
+invariant-vertices g l = record {
+  count : l.count ≡ length (flat_map (edges_up l.g) (numbers_from 0 l.v));
+  few : l.count ≤ 256 * l.v;
+}
