@@ -3,6 +3,11 @@
 //! Perdrix 2007).
 #![tactic(auto)]
 
+mod compiling;
 mod laws;
+#[cfg(test)]
+mod tests;
 
+pub use compiling::{Compiled, compile};
 pub use laws::compiled_circuits;
+pub use mc_translate::BuildEnd;

@@ -1,4 +1,4 @@
-use Rattle.mc_compile.proofs.Compiled.{compiled}
+use Rattle.mc_compile.proofs.CompiledCircuits.{compiled}
 use Rattle.mc_compile.proofs.laws.compiled_circuits.Goals as goal
 
 pub returns : goal.returns
