@@ -1,0 +1,48 @@
+-- The canonical text, part by part.
+use Rattle.std.proofs.Common.{◌≡◌, ℕ, List, [], ◌∷◌, ◌++◌, map, take, codes, append_assoc}
+use Rattle.std.proofs.Common.{◌∙◌, refl, ap, ◌||◌, Bool}
+use Rattle.std.specs.List.{list_any}
+use Rattle.std.proofs.lemmas.Grind.{flat_map-append}
+use Rattle.mc_write.specs.Text.{line_text, text_of}
+use Rattle.mc_write.specs.Named.{name_at}
+use Rattle.mc_model.specs.Pattern.{Command, Pattern, has_constant}
+use Rattle.mc_pattern_print.specs.Canonical.{command_line, header_line, text_with_constants}
+
+regroup : (a b c d e : List ℕ) → (((a ++ b) ++ c) ++ d) ++ e ≡ a ++ (b ++ (c ++ (d ++ e)))
+regroup a b c d e = simp append_assoc
+
+parts : (p : Pattern) →
+    ((((line_text (header_line p.commands) ++ line_text (codes "in" ∷ take p.inputs p.names))
+    ++ text_of (map (command_line p.names) p.commands))
+    ++ line_text (codes "out" ∷ map (name_at p.names) p.outputs))
+    ++ line_text (codes "end" ∷ []))
+    ≡ text_with_constants p
+parts p =
+    let commands = map (command_line p.names) p.commands in
+    let out = codes "out" ∷ map (name_at p.names) p.outputs in
+    let end = (codes "end" ∷ []) ∷ [] in
+    let last = flat_map-append line_text commands (out ∷ end) in
+    regroup (line_text (header_line p.commands))
+    (line_text (codes "in" ∷ take p.inputs p.names)) (text_of commands) (line_text out)
+    (line_text (codes "end" ∷ []))
+    ∙ rw last refl
+
+-- what is written, part by part
+pub record IsPrinted (p : Pattern) (headed with_inputs with_commands with_outputs whole : List ℕ) : Type 0 where
+  pub header : headed ≡ line_text (header_line p.commands)
+  pub inputs : with_inputs ≡ headed ++ line_text (codes "in" ∷ take p.inputs p.names)
+  pub commands : with_commands ≡ with_inputs ++ text_of (map (command_line p.names) p.commands)
+  pub outputs : with_outputs
+      ≡ with_commands ++ line_text (codes "out" ∷ map (name_at p.names) p.outputs)
+  pub end : whole ≡ with_outputs ++ line_text (codes "end" ∷ [])
+
+pub printed : (p : Pattern) (headed with_inputs with_commands with_outputs whole : List ℕ) →
+    IsPrinted p headed with_inputs with_commands with_outputs whole → whole ≡ text_with_constants p
+printed p headed with_inputs with_commands with_outputs whole h =
+    rw (h.end, h.outputs, h.commands, h.inputs, h.header) (parts p)
+
+-- the test of a list of commands, through what they are made of
+pub any_map : {A : Type 0} (f : A → Command) (xs : List A) →
+    list_any has_constant (map f xs) ≡ list_any (λ x. has_constant (f x)) xs
+any_map f [] = refl
+any_map f (x ∷ xs) = ap (λ (b : Bool). has_constant (f x) || b) (any_map f xs)

@@ -1,0 +1,241 @@
+//! Printing a pattern.
+
+ghost use Rattle.std.specs.Prelude.{◌≡◌, ◌++◌, ◌∷◌, [], ◌<◌, ◌≤◌, All, IfOk, OnOk, length, map};
+ghost use Rattle.std.specs.Prelude.{codes, take};
+ghost use Rattle.std.specs.List.{list_any};
+ghost use Rattle.mc_model.specs.Pattern.{Prep, Ent, Meas, FixX, FixZ, has_constant as holds_constant};
+ghost use Rattle.mc_write.specs.Text.{line_text, text_of, words_behind};
+ghost use Rattle.mc_write.specs.Named.{name_at};
+ghost use Rattle.mc_pattern.specs.Commands.{plain_command};
+ghost use Rattle.mc_pattern_text.specs.Written.{IsNamed, AreNamed};
+ghost use Rattle.mc_pattern_print.specs.Canonical.{behind_mark, command_line, constant_words};
+ghost use Rattle.mc_pattern_print.specs.Canonical.{header_line, signal_words, text_with_constants};
+ghost use Rattle.mc_pattern_print.specs.Canonical.{version_word};
+
+use mc_angle::Angle;
+use mc_model::Memory;
+use mc_names::Names;
+use mc_pattern::{Command, Pattern};
+use mc_signal::Signal;
+use mc_write::{
+    add_name, add_names, add_names_between, add_number, add_word, end_line, start_line,
+};
+use std::alloc::Global;
+
+/// Whether a signal of a command has the constant.
+fn has_constant<const H: usize>(command: &Command<H>) -> bool
+    ensures { result ≡ holds_constant (plain_command command.now) }
+{
+    match command {
+        Command::Prep(_) => false,
+        Command::Ent(_, _) => false,
+        Command::Meas { s, t, .. } => s.constant() || t.constant(),
+        Command::FixX { s, .. } => s.constant(),
+        Command::FixZ { s, .. } => s.constant(),
+    }
+}
+
+/// Whether a signal of any of the commands has the constant.
+fn have_constants<const H: usize>(commands: &[Command<H>]) -> bool
+    ensures { result ≡ list_any (λ c. holds_constant (plain_command c)) commands.now }
+{
+    commands.iter().any(
+        |command| -> bool
+            ensures { result ≡ holds_constant (plain_command command.now) }
+        { has_constant(command) },
+    )
+}
+
+fn print_header(text: &mut Vec<u8>, constant: bool) -> Result<(), Memory>
+    ensures { OnOk result (text.new.items ≡
+        text.old.items ++ line_text (codes "pattern" ∷ version_word constant ∷ [])) }
+{
+    start_line(text, b"pattern")?;
+    add_word(text, if constant { b"2" } else { b"1" })?;
+    end_line(text)
+}
+
+fn print_inputs(text: &mut Vec<u8>, names: &Names, inputs: u16) -> Result<(), Memory>
+    requires { inputs ≤ length names.now }
+    ensures { OnOk result (text.new.items ≡ text.old.items ++ line_text (codes "in" ∷ take inputs names.now)) }
+{
+    start_line(text, b"in")?;
+    add_names_between(text, names, 0, inputs)?;
+    end_line(text)
+}
+
+/// Writes the members of a signal as further words of a line.
+fn add_members(text: &mut Vec<u8>, names: &Names, signal: &Signal) -> Result<(), Memory>
+    requires { All (λ k. k < length names.now) signal.now.members }
+    ensures { OnOk result (text.new.items ≡
+        text.old.items ++ words_behind (map (name_at names.now) signal.now.members)) }
+{
+    let members = signal.members();
+    'members: for i in 0..members.len() {
+        add_name(text, names, members.get(i))?;
+    }
+    Ok(())
+}
+
+/// Writes the constant as a further word of a line.
+fn add_constant(text: &mut Vec<u8>, constant: bool) -> Result<(), Memory>
+    ensures { OnOk result (text.new.items ≡ text.old.items ++ words_behind (constant_words constant)) }
+{
+    if constant {
+        add_word(text, b"!")?;
+    }
+    Ok(())
+}
+
+/// Writes a signal as further words of a line.
+fn add_signal(text: &mut Vec<u8>, names: &Names, signal: &Signal) -> Result<(), Memory>
+    requires { All (λ k. k < length names.now) signal.now.members }
+    ensures { OnOk result (text.new.items ≡ text.old.items ++ words_behind (signal_words names.now signal.now)) }
+{
+    add_members(text, names, signal)?;
+    add_constant(text, signal.constant())
+}
+
+/// Writes a signal behind a mark, where it is not empty.
+fn add_marked(text: &mut Vec<u8>, mark: &[u8], names: &Names, signal: &Signal) -> Result<(), Memory>
+    requires { All (λ k. k < length names.now) signal.now.members }
+    ensures { OnOk result (text.new.items ≡
+        text.old.items ++ words_behind (behind_mark mark.now (signal_words names.now signal.now))) }
+{
+    if signal.is_empty() {
+        return Ok(());
+    }
+    add_word(text, mark)?;
+    add_signal(text, names, signal)
+}
+
+fn print_prep(text: &mut Vec<u8>, names: &Names, q: u16) -> Result<(), Memory>
+    requires { q < length names.now }
+    ensures { OnOk result (text.new.items ≡ text.old.items ++ line_text (command_line names.now (Prep q))) }
+{
+    start_line(text, b"n")?;
+    add_name(text, names, q)?;
+    end_line(text)
+}
+
+fn print_entangling(text: &mut Vec<u8>, names: &Names, q: u16, r: u16) -> Result<(), Memory>
+    requires first { q < length names.now }
+    requires second { r < length names.now }
+    ensures { OnOk result (text.new.items ≡ text.old.items ++ line_text (command_line names.now (Ent q r))) }
+{
+    start_line(text, b"e")?;
+    add_name(text, names, q)?;
+    add_name(text, names, r)?;
+    end_line(text)
+}
+
+fn print_measurement<const H: usize>(
+    text: &mut Vec<u8>,
+    names: &Names,
+    q: u16,
+    angle: &Angle<H>,
+    s: &Signal,
+    t: &Signal,
+) -> Result<(), Memory>
+    requires qubit { q < length names.now }
+    requires first { All (λ k. k < length names.now) s.now.members }
+    requires second { All (λ k. k < length names.now) t.now.members }
+    ensures { OnOk result (text.new.items ≡
+        text.old.items ++ line_text (command_line names.now (Meas q angle.now s.now t.now))) }
+{
+    start_line(text, b"m")?;
+    add_name(text, names, q)?;
+    add_number(text, angle.steps() as u32)?;
+    add_marked(text, b"s:", names, s)?;
+    add_marked(text, b"t:", names, t)?;
+    end_line(text)
+}
+
+fn print_x(text: &mut Vec<u8>, names: &Names, q: u16, signal: &Signal) -> Result<(), Memory>
+    requires qubit { q < length names.now }
+    requires members { All (λ k. k < length names.now) signal.now.members }
+    ensures { OnOk result (text.new.items ≡ text.old.items ++ line_text (command_line names.now (FixX q signal.now))) }
+{
+    start_line(text, b"x")?;
+    add_name(text, names, q)?;
+    add_signal(text, names, signal)?;
+    end_line(text)
+}
+
+fn print_z(text: &mut Vec<u8>, names: &Names, q: u16, signal: &Signal) -> Result<(), Memory>
+    requires qubit { q < length names.now }
+    requires members { All (λ k. k < length names.now) signal.now.members }
+    ensures { OnOk result (text.new.items ≡ text.old.items ++ line_text (command_line names.now (FixZ q signal.now))) }
+{
+    start_line(text, b"z")?;
+    add_name(text, names, q)?;
+    add_signal(text, names, signal)?;
+    end_line(text)
+}
+
+fn print_command<const H: usize>(
+    text: &mut Vec<u8>,
+    names: &Names,
+    command: &Command<H>,
+) -> Result<(), Memory>
+    requires { IsNamed (length names.now) (plain_command command.now) }
+    ensures { OnOk result (text.new.items ≡ text.old.items ++ line_text (command_line names.now (plain_command command.now))) }
+{
+    match command {
+        Command::Prep(q) => print_prep(text, names, *q),
+        Command::Ent(q, r) => print_entangling(text, names, *q, *r),
+        Command::Meas { q, angle, s, t } => print_measurement(text, names, *q, angle, s, t),
+        Command::FixX { q, s } => print_x(text, names, *q, s),
+        Command::FixZ { q, s } => print_z(text, names, *q, s),
+    }
+}
+
+fn print_commands<const H: usize>(
+    text: &mut Vec<u8>,
+    names: &Names,
+    commands: &[Command<H>],
+) -> Result<(), Memory>
+    requires { AreNamed (length names.now) (map plain_command commands.now) }
+    ensures { OnOk result (text.new.items ≡
+        text.old.items
+        ++ text_of (map (command_line names.now) (map plain_command commands.now))) }
+{
+    'commands: for command in commands {
+        print_command(text, names, command)?;
+    }
+    Ok(())
+}
+
+fn print_outputs(text: &mut Vec<u8>, names: &Names, outputs: &[u16]) -> Result<(), Memory>
+    requires { All (λ q. q < length names.now) outputs.now }
+    ensures { OnOk result (text.new.items ≡ text.old.items ++ line_text (codes "out" ∷ map (name_at names.now) outputs.now)) }
+{
+    start_line(text, b"out")?;
+    add_names(text, names, outputs)?;
+    end_line(text)
+}
+
+fn print_end(text: &mut Vec<u8>) -> Result<(), Memory>
+    ensures { OnOk result (text.new.items ≡ text.old.items ++ line_text (codes "end" ∷ [])) }
+{
+    start_line(text, b"end")?;
+    end_line(text)
+}
+
+/// The canonical text of a pattern, whose version is 2 exactly where a signal has the constant.
+pub fn print_with_constants<const H: usize>(
+    alloc: Global,
+    pattern: &Pattern<H>,
+) -> Result<Vec<u8>, Memory>
+    ensures { IfOk result (λ text. text.items ≡ text_with_constants pattern.now) }
+{
+    let mut text = Vec::new(alloc);
+    let names = pattern.names();
+    let commands = pattern.commands();
+    print_header(&mut text, have_constants(commands))?;
+    print_inputs(&mut text, names, pattern.inputs())?;
+    print_commands(&mut text, names, commands)?;
+    print_outputs(&mut text, names, pattern.outputs())?;
+    print_end(&mut text)?;
+    Ok(text)
+}
