@@ -1,10 +1,10 @@
 -- Two texts in a row: the lines of the first and behind them those of the second, which say the same
 -- at their later places.
-use Rattle.std.proofs.Common.{◌≡◌, ℕ, suc, ◌+◌, Bool, true, false, List, [], ◌∷◌, ◌++◌, map, length}
+use Rattle.std.proofs.Common.{◌≡◌, ℕ, ◌+◌, Bool, true, false, List, [], ◌∷◌, ◌++◌, map}
 use Rattle.std.proofs.Common.{Option, Some, None, refl, sym, ap, ap₂, ◌∙◌, subst, append_assoc}
-use Rattle.std.proofs.Common.{arith, if◌then◌else◌}
+use Rattle.std.proofs.Common.{if◌then◌else◌}
 use Rattle.std.proofs.lemmas.List.{append-nil}
-use Rattle.mc_lex.specs.Bytes.{is_feed, is_hash, is_blank, is_word_byte}
+use Rattle.mc_lex.specs.Bytes.{is_feed, is_blank, is_word_byte}
 use Rattle.mc_lex.specs.Lines.{Item, word, bad, Line, onto_word, starts_word, tokens, visible}
 use Rattle.mc_lex.specs.Lines.{onto_first, parts_of, with_items, numbered, lines_from, lines_of}
 use Rattle.mc_write.specs.Text as written
@@ -118,7 +118,8 @@ joined a b e =
 
 -- ---- a section with more lines behind it
 
-first_of_both : (a b : Option (Judgement × Place)) → or_later a b ≡ None → (a ≡ None) × (b ≡ None)
+pub first_of_both : (a b : Option (Judgement × Place)) → or_later a b ≡ None →
+    (a ≡ None) × (b ≡ None)
 first_of_both None b h = (refl, h)
 first_of_both (Some x) b h = absurd (cc h)
 
@@ -223,7 +224,7 @@ numbered_shapes number number' (part ∷ parts) =
     (token_shapes number number' 1 1 (visible part))
     (numbered_shapes (number + 1) (number' + 1) parts)
 
-words_same : (items items' : List Item) → shapes items ≡ shapes items' →
+pub words_same : (items items' : List Item) → shapes items ≡ shapes items' →
     words_of items ≡ words_of items'
 words_same [] [] e = refl
 words_same [] (item ∷ items') e = absurd (cc e)

@@ -1,36 +1,40 @@
 -- A document behind its header, and a change behind its own.
 use Rattle.std.proofs.Common.{◌≡◌, ℕ, zero, suc, List, [], ◌∷◌, true, Option, Some, None, refl, sym}
 use Rattle.std.proofs.Common.{◌∙◌, ap, subst, map, length, false, Result, Ok, Err, IfOk}
+use Rattle.std.proofs.Common.{if◌then◌else◌}
 use Rattle.std.specs.List.{list_any}
 use Rattle.std.specs.Option.{option_map}
 use Rattle.mc_lex.specs.declared.kind.Kind.{Kind}
 use Rattle.mc_lex.specs.declared.kind.Kind.TheVariants.{Circuit, Pattern, Graph, Change, Flow}
 use Rattle.mc_lex.specs.declared.kind.Kind.TheVariants.{NoFlow, NoCausal, Trace, Least, Gates}
-use Rattle.mc_lex.specs.Lines.{Item, word, bad, Line, lines_of, end_of}
+use Rattle.mc_lex.specs.Lines.{Item, word, bad, Line}
 use Rattle.mc_lex.specs.declared.end.TextEnd.{TextEnd}
 use Rattle.mc_lex.specs.declared.end.TextEnd.TheVariants as end
-use Rattle.mc_lex.specs.Left.{Left, begin, has_line, on_first, tokens_on, lines_on, IsFurther}
+use Rattle.mc_lex.specs.Left.{Left, has_line, on_first, tokens_on, lines_on, IsFurther}
 use Rattle.mc_model.specs.Pattern as plain
 use Rattle.mc_model.specs.Pattern.{has_constant}
 use Rattle.mc_text.specs.declared.fault.Fault.{Fault}
-use Rattle.mc_text.specs.declared.fault.Fault.TheVariants.{NoKind, BehindEnd}
-use Rattle.mc_text.specs.Judged.{Judgement, Lines, Place, fault, placed, or_later, words_of}
+use Rattle.mc_text.specs.declared.fault.Fault.TheVariants.{NoKind, BehindEnd, NoSecond}
+use Rattle.mc_text.specs.declared.form.Form.{Form}
+use Rattle.mc_text.specs.Judged.{Judgement, Lines, Place, Rules, fault, placed, or_later, words_of}
 use Rattle.mc_text.specs.Judged.{first_in_section, section_lines, behind_section}
-use Rattle.mc_text.specs.Headers.{plain_forms, first_in_header, IsHeader}
+use Rattle.mc_text.specs.Headers.{plain_forms, first_in_header, IsHeader, kind_in, version_in}
 use Rattle.mc_text.specs.Stops.{IsEnd}
-use Rattle.mc_pattern_text.specs.ChangeJudge.{change_rules}
 use Rattle.mc_pattern_text.specs.ChangeRows.{AllPlain}
 use Rattle.mc_pattern_text.specs.Value.{Spelled, spelled_n, spelled_e, spelled_m, spelled_x}
 use Rattle.mc_pattern_text.specs.Value.{spelled_z, spelled_commands, command_by, pattern_of}
-use Rattle.mc_pattern_text.specs.ChangeValue.{SpelledRow, row_by, rows_of}
+use Rattle.mc_pattern_text.specs.ChangeValue.{SpelledRow, row_by}
 use Rattle.mc_pattern_text.proofs.RisingSets.{rising_where}
+use Rattle.mc_cert_text.specs.Kinds.{IsCertKind}
 use Rattle.mc_document.specs.declared.takes.Takes.{Takes}
 use Rattle.mc_document.specs.Documents.{HasNoConstants}
-use Rattle.mc_document.specs.Kinds.{refused_behind, refused_kind}
-use Rattle.mc_document.specs.Sections.{StartsDocument, first_behind, first_behind_pattern}
-use Rattle.mc_document.specs.Sections.{first_in_kind, first_in_lines, first_in_text, kind_in}
-use Rattle.mc_document.specs.Sections.{spelled, spelled_change, spelled_in_kind, spelled_lines}
-use Rattle.mc_document.specs.Places.{place_in, place_in_lines, first_place}
+use Rattle.mc_document.specs.Kinds.{first_form, refused_behind_graph, refused_kind}
+use Rattle.mc_document.specs.Second.{Second, first_behind_first, first_in_second}
+use Rattle.mc_document.specs.Second.{spelled_second}
+use Rattle.mc_document.specs.Sections.{StartsDocument, first_in_kind, first_in_lines}
+use Rattle.mc_document.specs.Sections.{spelled_in_kind, spelled_lines}
+use Rattle.mc_document.specs.Places.{place_in, place_in_lines}
+use Rattle.mc_document.proofs.Joined.{first_of_both}
 
 header_kind : (kind : Kind) (place : Place) (items : List Item) → IsHeader kind place items →
     kind_in (words_of items) ≡ Some kind
@@ -40,10 +44,11 @@ header_kind kind place (bad line column ∷ items) h = absurd h
 
 first_by_kind : (half : ℕ) (takes : Takes) (lines : List Line) (end : Place) (kind : Kind)
     (place : Place) → has_line lines ≡ true → IsHeader kind place (on_first lines end).here →
-    first_in_header (refused_kind takes) NoKind plain_forms (on_first lines end).here (on_first lines end).lack
-    ≡ None →
+    first_in_header (refused_kind takes) NoKind (first_form half) (on_first lines end).here
+    (on_first lines end).lack ≡ None →
     first_in_lines half takes lines end
-    ≡ first_in_kind half (Some kind) (on_first lines end).later end
+    ≡ first_in_kind half takes (Some kind) (version_in (words_of (on_first lines end).here))
+    (on_first lines end).later end
 first_by_kind half takes [] end kind place some h clean = absurd (cc)
 first_by_kind half takes (line ∷ lines) end kind place some h clean =
     rw (clean, header_kind kind place line.items h) refl
@@ -78,20 +83,28 @@ later_on : (lines : List Line) (end : Place) (opened headed : Left) (kind : Kind
 later_on lines end opened headed kind place o =
     o.later ∙ ap (λ (left : Left). left.later) o.opens
 
+last_on : (lines : List Line) (end : Place) (opened headed : Left) (kind : Kind) (place : Place) →
+    IsOpened lines end opened headed kind place → headed.last ≡ end
+last_on lines end opened headed kind place o =
+    o.last ∙ ap (λ (left : Left). left.last) o.opens ∙ last_kept lines end
+
 pub opened_first : (half : ℕ) (takes : Takes) (lines : List Line) (end : Place)
     (opened headed : Left) (kind : Kind) (place : Place) →
     IsOpened lines end opened headed kind place →
-    first_in_header (refused_kind takes) NoKind plain_forms opened.here opened.lack ≡ None →
-    first_in_lines half takes lines end ≡ first_in_kind half (Some kind) headed.later headed.last
+    first_in_header (refused_kind takes) NoKind (first_form half) opened.here opened.lack ≡ None →
+    first_in_lines half takes lines end
+    ≡ first_in_kind half takes (Some kind) (version_in (words_of opened.here)) headed.later
+    headed.last
 opened_first half takes lines end opened headed kind place o clean =
     let header = header_on lines end opened headed kind place o in
     let none = subst
-    (λ (left : Left). first_in_header (refused_kind takes) NoKind plain_forms left.here left.lack ≡ None)
+    (λ (left : Left). first_in_header (refused_kind takes) NoKind (first_form half) left.here
+    left.lack ≡ None)
     o.opens clean in
     let later = later_on lines end opened headed kind place o in
-    let last : headed.last ≡ end =
-    o.last ∙ ap (λ (left : Left). left.last) o.opens ∙ last_kept lines end in
-    rw (later, last) (first_by_kind half takes lines end kind place o.some header none)
+    let last = last_on lines end opened headed kind place o in
+    let version = ap (λ (left : Left). version_in (words_of left.here)) o.opens in
+    rw (later, last, version) (first_by_kind half takes lines end kind place o.some header none)
 
 pub opened_spelled : (half : ℕ) (lines : List Line) (end : Place) (opened headed : Left)
     (kind : Kind) (place : Place) → IsOpened lines end opened headed kind place →
@@ -131,18 +144,19 @@ opened_place lines end opened headed kind place o =
 -- the answer to a fault of the header
 pub header_first : (half : ℕ) (takes : Takes) (lines : List Line) (end : Place) (opened : Left)
     (given : TextEnd) → has_line lines ≡ true → opened ≡ on_first lines end →
-    IsEnd given (first_in_header (refused_kind takes) NoKind plain_forms opened.here opened.lack) →
+    IsEnd given (first_in_header (refused_kind takes) NoKind (first_form half) opened.here
+    opened.lack) →
     IsEnd given (first_in_lines half takes lines end)
 header_first half takes [] end opened given some opens h = absurd (cc)
 header_first half takes (line ∷ lines) end opened given some opens h =
     end_first given _ _ (subst (λ (left : Left). IsEnd given
-    (first_in_header (refused_kind takes) NoKind plain_forms left.here left.lack)) opens h)
+    (first_in_header (refused_kind takes) NoKind (first_form half) left.here left.lack)) opens h)
 
--- the header of a document that nothing is against is that of a circuit or a pattern
+-- the header of a document that nothing is against is that of a circuit, a pattern or a graph
 starts_kind : (takes : Takes) (kind : Kind) → refused_kind takes kind ≡ None → StartsDocument kind
 starts_kind takes Circuit clean = tt
 starts_kind takes Pattern clean = tt
-starts_kind takes Graph clean = absurd (cc clean)
+starts_kind takes Graph clean = tt
 starts_kind takes Change clean = absurd (cc clean)
 starts_kind takes Flow clean = absurd (cc clean)
 starts_kind takes NoFlow clean = absurd (cc clean)
@@ -151,65 +165,126 @@ starts_kind takes Trace clean = absurd (cc clean)
 starts_kind takes Least clean = absurd (cc clean)
 starts_kind takes Gates clean = absurd (cc clean)
 
-unrefused : (takes : Takes) (kind : Kind) (place : Place) (later : Option (Judgement × Place))
-    (refused : Option Fault) → refused_kind takes kind ≡ refused →
-    or_later (placed place (option_map fault refused)) later ≡ None → refused_kind takes kind ≡ None
-unrefused takes kind place later None e clean = e
-unrefused takes kind place later (Some broken) e clean = absurd (cc clean)
+pub unrefused : (place : Place) (refused : Option Fault) →
+    placed place (option_map fault refused) ≡ None → refused ≡ None
+unrefused place None clean = refl
+unrefused place (Some broken) clean = absurd (cc clean)
 
-pub starts : (takes : Takes) (items : List Item) (lack : Place) (kind : Kind) (place : Place) →
-    IsHeader kind place items →
-    first_in_header (refused_kind takes) NoKind plain_forms items lack ≡ None → StartsDocument kind
-starts takes [] lack kind place h clean = absurd h
-starts takes (word bytes line column ∷ items) lack kind place h clean =
+-- a header that nothing is against names a kind that is not refused
+kind_stands : (refused : Kind → Option Fault) (unknown : Fault) (form : Kind → Form)
+    (items : List Item) (lack : Place) (kind : Kind) (place : Place) → IsHeader kind place items →
+    first_in_header refused unknown form items lack ≡ None → refused kind ≡ None
+kind_stands refused unknown form [] lack kind place h clean = absurd h
+kind_stands refused unknown form (word bytes line column ∷ items) lack kind place h clean =
+    unrefused (line, column) (refused kind) (first_of_both _ _ (rw h.0 at clean)).0
+kind_stands refused unknown form (bad line column ∷ items) lack kind place h clean = absurd h
+
+pub starts : (half : ℕ) (takes : Takes) (items : List Item) (lack : Place) (kind : Kind)
+    (place : Place) → IsHeader kind place items →
+    first_in_header (refused_kind takes) NoKind (first_form half) items lack ≡ None →
+    StartsDocument kind
+starts half takes items lack kind place h clean =
     starts_kind takes kind
-    (unrefused takes kind (line, column) _ (refused_kind takes kind) refl (rw h.0 at clean))
-starts takes (bad line column ∷ items) lack kind place h clean = absurd h
+    (kind_stands (refused_kind takes) NoKind (first_form half) items lack kind place h clean)
 
--- `opened` stands on the header of what stands behind a pattern, `headed` behind it
-pub record IsBehind (lines : List Line) (end : Place) (opened headed : Left) : Type 0 where
-  pub some : has_line lines ≡ true
-  pub opens : opened ≡ on_first lines end
-  pub clean : first_in_header refused_behind BehindEnd plain_forms opened.here opened.lack ≡ None
-  pub later : headed.later ≡ opened.later
-  pub last : headed.last ≡ opened.last
+-- the header behind a graph that nothing is against is that of a certificate
+certifies : (kind : Kind) → refused_behind_graph kind ≡ None → IsCertKind kind
+certifies Circuit clean = absurd (cc clean)
+certifies Pattern clean = absurd (cc clean)
+certifies Graph clean = absurd (cc clean)
+certifies Change clean = absurd (cc clean)
+certifies Flow clean = tt
+certifies NoFlow clean = tt
+certifies NoCausal clean = tt
+certifies Trace clean = absurd (cc clean)
+certifies Least clean = absurd (cc clean)
+certifies Gates clean = absurd (cc clean)
 
-first_in_change : (p : plain.Pattern) (lines : List Line) (end : Place) → has_line lines ≡ true →
-    first_in_header refused_behind BehindEnd plain_forms (on_first lines end).here (on_first lines end).lack
-    ≡ None →
-    first_behind_pattern p lines end
-    ≡ or_later (first_in_section (change_rules p) [] (on_first lines end).later end)
-    (first_behind (behind_section (on_first lines end).later))
-first_in_change p [] end some clean = absurd (cc)
-first_in_change p (line ∷ lines) end some clean = rw clean refl
+pub starts_cert : (items : List Item) (lack : Place) (kind : Kind) (place : Place) →
+    IsHeader kind place items →
+    first_in_header refused_behind_graph BehindEnd plain_forms items lack ≡ None → IsCertKind kind
+starts_cert items lack kind place h clean =
+    certifies kind
+    (kind_stands refused_behind_graph BehindEnd plain_forms items lack kind place h clean)
 
-pub behind_first : (p : plain.Pattern) (lines : List Line) (end : Place) (opened headed : Left) →
-    IsBehind lines end opened headed →
-    first_behind_pattern p lines end
-    ≡ or_later (first_in_section (change_rules p) [] headed.later headed.last)
-    (first_behind (behind_section headed.later))
-behind_first p lines end opened headed b =
+-- the same for what stands behind a first section
+second_by_kind : (second : Second) (lines : List Line) (end : Place) (kind : Kind) (place : Place) →
+    has_line lines ≡ true → IsHeader kind place (on_first lines end).here →
+    first_in_header second.refused BehindEnd plain_forms (on_first lines end).here
+    (on_first lines end).lack ≡ None →
+    first_behind_first second lines end
+    ≡ first_in_second second (Some kind) (on_first lines end).later end
+second_by_kind second [] end kind place some h clean = absurd (cc)
+second_by_kind second (line ∷ lines) end kind place some h clean =
+    rw (clean, header_kind kind place line.items h) refl
+
+pub second_first : (second : Second) (lines : List Line) (end : Place) (opened headed : Left)
+    (kind : Kind) (place : Place) → IsOpened lines end opened headed kind place →
+    first_in_header second.refused BehindEnd plain_forms opened.here opened.lack ≡ None →
+    first_behind_first second lines end
+    ≡ first_in_second second (Some kind) headed.later headed.last
+second_first second lines end opened headed kind place o clean =
+    let header = header_on lines end opened headed kind place o in
     let none = subst
-    (λ (left : Left). first_in_header refused_behind BehindEnd plain_forms left.here left.lack ≡ None)
-    b.opens b.clean in
-    let later : headed.later ≡ (on_first lines end).later =
-    b.later ∙ ap (λ (left : Left). left.later) b.opens in
-    let last : headed.last ≡ end =
-    b.last ∙ ap (λ (left : Left). left.last) b.opens ∙ last_kept lines end in
-    rw (later, last) (first_in_change p lines end b.some none)
+    (λ (left : Left). first_in_header second.refused BehindEnd plain_forms left.here left.lack
+    ≡ None)
+    o.opens clean in
+    let later = later_on lines end opened headed kind place o in
+    let last = last_on lines end opened headed kind place o in
+    rw (later, last) (second_by_kind second lines end kind place o.some header none)
 
-change_behind : (p : plain.Pattern) (lines : List Line) (end : Place) → has_line lines ≡ true →
-    spelled_change p lines ≡ Some (rows_of p.names (section_lines (on_first lines end).later))
-change_behind p [] end some = absurd (cc)
-change_behind p (line ∷ lines) end some = refl
+-- the answer to a fault of the header of a second section
+pub second_header : (second : Second) (lines : List Line) (end : Place) (opened : Left)
+    (given : TextEnd) → has_line lines ≡ true → opened ≡ on_first lines end →
+    IsEnd given (first_in_header second.refused BehindEnd plain_forms opened.here opened.lack) →
+    IsEnd given (first_behind_first second lines end)
+second_header second [] end opened given some opens h = absurd (cc)
+second_header second (line ∷ lines) end opened given some opens h =
+    end_first given _ _ (subst (λ (left : Left). IsEnd given
+    (first_in_header second.refused BehindEnd plain_forms left.here left.lack)) opens h)
 
-pub behind_spelled : (p : plain.Pattern) (lines : List Line) (end : Place) (opened headed : Left) →
-    IsBehind lines end opened headed →
-    spelled_change p lines ≡ Some (rows_of p.names (section_lines headed.later))
-behind_spelled p lines end opened headed b =
-    let later : headed.later ≡ (on_first lines end).later =
-    b.later ∙ ap (λ (left : Left). left.later) b.opens in
-    rw later (change_behind p lines end b.some)
+spelled_by_named : {A : Type 0} (spells : Kind → Lines → A) (lines : List Line) (end : Place)
+    (kind : Kind) (place : Place) → has_line lines ≡ true →
+    IsHeader kind place (on_first lines end).here →
+    spelled_second spells lines ≡ Some (spells kind (section_lines (on_first lines end).later))
+spelled_by_named spells [] end kind place some h = absurd (cc)
+spelled_by_named spells (line ∷ lines) end kind place some h =
+    rw (header_kind kind place line.items h) refl
+
+pub second_spelled : {A : Type 0} (spells : Kind → Lines → A) (lines : List Line) (end : Place)
+    (opened headed : Left) (kind : Kind) (place : Place) →
+    IsOpened lines end opened headed kind place →
+    spelled_second spells lines ≡ Some (spells kind (section_lines headed.later))
+second_spelled spells lines end opened headed kind place o =
+    let later = later_on lines end opened headed kind place o in
+    let header = header_on lines end opened headed kind place o in
+    rw later (spelled_by_named spells lines end kind place o.some header)
+
+-- no line stands behind a first section
+pub none_behind : (second : Second) (lines : List Line) (end : Place) → has_line lines ≡ false →
+    first_behind_first second lines end ≡ (if second.due then Some (fault NoSecond, end) else None)
+none_behind second [] end none = refl
+none_behind second (line ∷ lines) end none = absurd (cc)
+
+pub none_spelled : {A : Type 0} (spells : Kind → Lines → A) (lines : List Line) →
+    has_line lines ≡ false → spelled_second spells lines ≡ None
+none_spelled spells [] none = refl
+none_spelled spells (line ∷ lines) none = absurd (cc)
+
+-- the first of both sections, behind a first without fault
+pub both_sections : {A : Type 0} (rules : Rules) (behind : A → Second) (value : Lines → A)
+    (lines later : List Line) (end last : Place) (x : A) →
+    first_in_section rules [] lines end ≡ None → x ≡ value (section_lines lines) →
+    later ≡ behind_section lines → last ≡ end →
+    or_later (first_in_section rules [] lines end)
+    (first_behind_first (behind (value (section_lines lines))) (behind_section lines) end)
+    ≡ first_behind_first (behind x) later last
+both_sections {A} rules behind value lines later end last x clean same rest ends =
+    ap (λ (found : Option (Judgement × Place)). or_later found
+    (first_behind_first (behind (value (section_lines lines))) (behind_section lines) end)) clean
+    ∙ ap (λ (y : A). first_behind_first (behind y) (behind_section lines) end) (sym same)
+    ∙ ap (λ (ls : List Line). first_behind_first (behind x) ls end) (sym rest)
+    ∙ ap (λ (place : Place). first_behind_first (behind x) later place) (sym ends)
 
 -- a reader further on has the same end of the text
 tokens_last : (k : ℕ) (left : Left) → (tokens_on k left).last ≡ left.last

@@ -8,63 +8,98 @@ use Rattle.mc_lex.specs.declared.kind.Kind.TheVariants.{Circuit, Pattern, Graph,
 use Rattle.mc_lex.specs.declared.kind.Kind.TheVariants.{NoFlow, NoCausal, Trace, Least, Gates}
 use Rattle.mc_lex.specs.Kinds.{kind_of}
 use Rattle.mc_lex.specs.Lines.{Item, word, bad, Line, lines_of, end_of}
-use Rattle.mc_text.specs.declared.fault.Fault.{Fault}
-use Rattle.mc_text.specs.declared.fault.Fault.TheVariants.{NoKind}
-use Rattle.mc_text.specs.Judged.{Judgement, Place, fault, placed, or_later, words_of}
-use Rattle.mc_text.specs.Headers.{kind_judge, plain_forms, first_in_header}
+use Rattle.mc_model.specs.Graph.{OpenGraph}
+use Rattle.mc_text.specs.declared.fault.Fault.TheVariants.{NoKind, BehindEnd}
+use Rattle.mc_text.specs.Judged.{Place, placed, words_of}
+use Rattle.mc_text.specs.Judged.{section_lines, behind_section}
+use Rattle.mc_text.specs.Headers.{kind_judge, plain_forms, first_in_header, kind_in}
+use Rattle.mc_graph_text.specs.Value as graphs
+use Rattle.mc_cert_text.specs.Kinds as certs
 use Rattle.mc_document.specs.declared.takes.Takes.{Takes}
-use Rattle.mc_document.specs.Documents.{PlainDocument, circuit, pattern, circuit_in, pattern_in}
+use Rattle.mc_document.specs.Documents.{PlainDocument, circuit, pattern, graph}
+use Rattle.mc_document.specs.Documents.{circuit_in, pattern_in, graph_in, cert_in}
 use Rattle.mc_document.specs.Kinds.{IsTaken, circuits_and_patterns, only_circuits, only_patterns}
-use Rattle.mc_document.specs.Kinds.{refused_kind, unless_taken}
-use Rattle.mc_document.specs.Sections.{first_in_lines, first_in_text, kind_in, spelled}
-use Rattle.mc_document.specs.Sections.{spelled_in_kind, spelled_lines}
-
-first_none : (a b : Option (Judgement × Place)) → or_later a b ≡ None → a ≡ None
-first_none None b h = refl
-first_none (Some x) b h = absurd (cc h)
-
-unrefused : (place : Place) (refused : Option Fault) →
-    placed place (option_map fault refused) ≡ None → refused ≡ None
-unrefused place None h = refl
-unrefused place (Some broken) h = absurd (cc h)
+use Rattle.mc_document.specs.Kinds.{certified_graphs, every_kind, patterns_and_graphs}
+use Rattle.mc_document.specs.Kinds.{first_form, refused_behind_graph, refused_kind, unless_taken}
+use Rattle.mc_document.specs.Second.{first_behind_first}
+use Rattle.mc_document.specs.Sections.{behind_graph, first_in_kind, first_in_lines, first_in_text}
+use Rattle.mc_document.specs.Sections.{spelled, spelled_cert, spelled_in_kind, spelled_lines}
+use Rattle.mc_document.proofs.Joined.{first_of_both}
+use Rattle.mc_document.proofs.Opening.{unrefused}
 
 taken : (t : Bool) → unless_taken t ≡ None → t ≡ true
 taken true h = refl
 taken false h = absurd (cc h)
 
-by_kind : (half : ℕ) (takes : Takes) (kind : Kind) (lines : List Line) →
-    refused_kind takes kind ≡ None → IsSomeAnd (spelled_in_kind half (Some kind) lines) (IsTaken takes)
-by_kind half takes Circuit lines h = taken takes.circuit h
-by_kind half takes Pattern lines h = taken takes.pattern h
-by_kind half takes Graph lines h = absurd (cc h)
-by_kind half takes Change lines h = absurd (cc h)
-by_kind half takes Flow lines h = absurd (cc h)
-by_kind half takes NoFlow lines h = absurd (cc h)
-by_kind half takes NoCausal lines h = absurd (cc h)
-by_kind half takes Trace lines h = absurd (cc h)
-by_kind half takes Least lines h = absurd (cc h)
-by_kind half takes Gates lines h = absurd (cc h)
+-- a certificate stands behind a graph where one is due
+has_cert : (due : Bool) (g : OpenGraph) (lines : List Line) (end : Place) →
+    first_behind_first (behind_graph due g) lines end ≡ None → due ≡ true →
+    IsTrue (is_some (spelled_cert g lines))
+has_cert false g lines end h e = absurd (cc e)
+has_cert true g [] end h e = absurd (cc h)
+has_cert true g (line ∷ lines) end h e = by_header line.items line.lack (first_of_both _ _ h).0
+  where
+    by_named : (place : Place) (kind : Option Kind) →
+        placed place (kind_judge refused_behind_graph BehindEnd kind) ≡ None →
+        IsTrue (is_some (option_map (λ k. certs.cert_in k g.names (section_lines lines)) kind))
+    by_named place None h = absurd (cc h)
+    by_named place (Some kind) h = refl
 
-by_judge : (half : ℕ) (takes : Takes) (kind : Option Kind) (place : Place) (lines : List Line) →
+    by_header : (items : List Item) (lack : Place) →
+        first_in_header refused_behind_graph BehindEnd plain_forms items lack ≡ None →
+        IsTrue (is_some (option_map (λ k. certs.cert_in k g.names (section_lines lines))
+        (kind_in (words_of items))))
+    by_header [] lack h = absurd (cc h)
+    by_header (word bytes line column ∷ items) lack h =
+        by_named (line, column) (kind_of bytes) (first_of_both _ _ h).0
+    by_header (bad line column ∷ items) lack h = absurd (cc h)
+
+by_kind : (half : ℕ) (takes : Takes) (kind : Kind) (version : ℕ) (lines : List Line)
+    (end : Place) → refused_kind takes kind ≡ None →
+    first_in_kind half takes (Some kind) version lines end ≡ None →
+    IsSomeAnd (spelled_in_kind half (Some kind) lines) (IsTaken takes)
+by_kind half takes Circuit version lines end h clean = taken takes.circuit h
+by_kind half takes Pattern version lines end h clean = taken takes.pattern h
+by_kind half takes Graph version lines end h clean = (
+  taken takes.graph h,
+  has_cert takes.cert (graphs.graph_in half (section_lines lines)) (behind_section lines) end
+      (first_of_both _ _ clean).1,
+)
+by_kind half takes Change version lines end h clean = absurd (cc h)
+by_kind half takes Flow version lines end h clean = absurd (cc h)
+by_kind half takes NoFlow version lines end h clean = absurd (cc h)
+by_kind half takes NoCausal version lines end h clean = absurd (cc h)
+by_kind half takes Trace version lines end h clean = absurd (cc h)
+by_kind half takes Least version lines end h clean = absurd (cc h)
+by_kind half takes Gates version lines end h clean = absurd (cc h)
+
+by_judge : (half : ℕ) (takes : Takes) (kind : Option Kind) (place : Place) (version : ℕ)
+    (lines : List Line) (end : Place) →
     placed place (kind_judge (refused_kind takes) NoKind kind) ≡ None →
+    first_in_kind half takes kind version lines end ≡ None →
     IsSomeAnd (spelled_in_kind half kind lines) (IsTaken takes)
-by_judge half takes None place lines h = absurd (cc h)
-by_judge half takes (Some kind) place lines h =
-    by_kind half takes kind lines (unrefused place (refused_kind takes kind) h)
+by_judge half takes None place version lines end h clean = absurd (cc h)
+by_judge half takes (Some kind) place version lines end h clean =
+    by_kind half takes kind version lines end (unrefused place (refused_kind takes kind) h) clean
 
-by_header : (half : ℕ) (takes : Takes) (items : List Item) (lack : Place) (lines : List Line) →
-    first_in_header (refused_kind takes) NoKind plain_forms items lack ≡ None →
+by_header : (half : ℕ) (takes : Takes) (items : List Item) (lack : Place) (version : ℕ)
+    (lines : List Line) (end : Place) →
+    first_in_header (refused_kind takes) NoKind (first_form half) items lack ≡ None →
+    first_in_kind half takes (kind_in (words_of items)) version lines end ≡ None →
     IsSomeAnd (spelled_in_kind half (kind_in (words_of items)) lines) (IsTaken takes)
-by_header half takes [] lack lines h = absurd (cc h)
-by_header half takes (word bytes line column ∷ items) lack lines h =
-    by_judge half takes (kind_of bytes) (line, column) lines (first_none _ _ h)
-by_header half takes (bad line column ∷ items) lack lines h = absurd (cc h)
+by_header half takes [] lack version lines end h clean = absurd (cc h)
+by_header half takes (word bytes line column ∷ items) lack version lines end h clean =
+    by_judge half takes (kind_of bytes) (line, column) version lines end (first_of_both _ _ h).0
+    clean
+by_header half takes (bad line column ∷ items) lack version lines end h clean = absurd (cc h)
 
 by_lines : (half : ℕ) (takes : Takes) (lines : List Line) (end : Place) →
-    first_in_lines half takes lines end ≡ None → IsSomeAnd (spelled_lines half lines) (IsTaken takes)
+    first_in_lines half takes lines end ≡ None →
+    IsSomeAnd (spelled_lines half lines) (IsTaken takes)
 by_lines half takes [] end h = absurd (cc h)
 by_lines half takes (line ∷ lines) end h =
-    by_header half takes line.items line.lack lines (first_none _ _ h)
+    let both = first_of_both _ _ h in
+    by_header half takes line.items line.lack _ lines end both.0 both.1
 
 pub clean_spells : (half : ℕ) (takes : Takes) (text : List ℕ) →
     first_in_text half takes text ≡ None → IsSomeAnd (spelled half text) (IsTaken takes)
@@ -81,12 +116,32 @@ taken_by half takes text d clean e =
 pub circuit_seen : (d : PlainDocument) → IsTaken only_circuits d → IsTrue (is_some (circuit_in d))
 circuit_seen (circuit c) h = refl
 circuit_seen (pattern p change) h = absurd (cc h)
+circuit_seen (graph g cert) h = absurd (cc h.0)
 
 pub pattern_seen : (d : PlainDocument) → IsTaken only_patterns d → IsTrue (is_some (pattern_in d))
 pattern_seen (circuit c) h = absurd (cc h)
 pattern_seen (pattern p change) h = refl
+pattern_seen (graph g cert) h = absurd (cc h.0)
 
 pub other_seen : (d : PlainDocument) → IsTaken circuits_and_patterns d →
     is_some (circuit_in d) ≡ false → IsTrue (is_some (pattern_in d))
 other_seen (circuit c) h none = absurd (cc none)
 other_seen (pattern p change) h none = refl
+other_seen (graph g cert) h none = absurd (cc h.0)
+
+pub branch_seen : (d : PlainDocument) → IsTaken patterns_and_graphs d →
+    is_some (pattern_in d) ≡ false → IsTrue (is_some (graph_in d))
+branch_seen (circuit c) h none = absurd (cc h)
+branch_seen (pattern p change) h none = absurd (cc none)
+branch_seen (graph g cert) h none = refl
+
+pub certified_seen : (d : PlainDocument) → IsTaken certified_graphs d → IsTrue (is_some (cert_in d))
+certified_seen (circuit c) h = absurd (cc h)
+certified_seen (pattern p change) h = absurd (cc h)
+certified_seen (graph g cert) h = h.1 refl
+
+pub every_seen : (d : PlainDocument) → IsTaken every_kind d → is_some (circuit_in d) ≡ false →
+    is_some (pattern_in d) ≡ false → IsTrue (is_some (graph_in d))
+every_seen (circuit c) h none none' = absurd (cc none)
+every_seen (pattern p change) h none none' = absurd (cc none')
+every_seen (graph g cert) h none none' = refl

@@ -1,16 +1,22 @@
 //! The kinds of document, and how a document is looked at.
 
 ghost use Rattle.std.specs.Prelude.{◌≡◌, IsTrue, Some, is_some};
-ghost use Rattle.mc_document.specs.Documents.{circuit_in, pattern_in, plain_document};
+ghost use Rattle.mc_cert_text.specs.Certs.{plain_cert};
+ghost use Rattle.mc_document.specs.Documents.{cert_in, circuit_in, graph_in, pattern_in};
+ghost use Rattle.mc_document.specs.Documents.{plain_document};
 
+use mc_cert_text::Cert;
 use mc_circuit::Circuit;
+use mc_graph::OpenGraph;
 use mc_pattern::{Change, Pattern};
 
-/// A document: a circuit, or a pattern with or without a change of its outcomes.
+/// A document: a circuit; a pattern with or without a change of its outcomes; or an open graph with or without a
+/// certificate, which need not hold.
 #[derive(Drop)]
 pub enum Document<const H: usize> {
     Circuit(Circuit<H>),
     Pattern(Pattern<H>, Option<Change>),
+    Graph(OpenGraph<H>, Option<Cert>),
 }
 
 /// A document, and the line and the column of its first word.
@@ -22,13 +28,22 @@ pub struct Placed<const H: usize> {
 }
 
 impl<const H: usize> Document<H> {
-    ghost use Rattle.mc_document.specs.Documents.{circuit_in, pattern_in, plain_document};
+    ghost use Rattle.mc_cert_text.specs.Certs.{plain_cert};
+    ghost use Rattle.mc_document.specs.Documents.{cert_in, circuit_in, graph_in, pattern_in};
+    ghost use Rattle.mc_document.specs.Documents.{plain_document};
 
     /// Whether it is a circuit.
     pub fn is_circuit(&self) -> bool
         ensures { result ≡ is_some (circuit_in (plain_document self.now)) }
     {
         matches!(self, Document::Circuit(_))
+    }
+
+    /// Whether it is a pattern.
+    pub fn is_pattern(&self) -> bool
+        ensures { result ≡ is_some (pattern_in (plain_document self.now)) }
+    {
+        matches!(self, Document::Pattern(_, _))
     }
 
     /// The circuit of a document that is one.
@@ -49,6 +64,32 @@ impl<const H: usize> Document<H> {
     {
         match self {
             Document::Pattern(pattern, _) => pattern,
+            _ => unreachable!(),
+        }
+    }
+
+    /// The graph of a document that is one.
+    pub fn into_graph(self) -> OpenGraph<H>
+        requires { IsTrue (is_some (graph_in (plain_document self))) }
+        ensures { graph_in (plain_document self.entry) ≡ Some result }
+    {
+        match self {
+            Document::Graph(graph, _) => graph,
+            _ => unreachable!(),
+        }
+    }
+
+    /// The graph and the certificate of a document that has one.
+    pub fn into_certified(self) -> (OpenGraph<H>, Cert)
+        requires { IsTrue (is_some (cert_in (plain_document self))) }
+        ensures graph { graph_in (plain_document self.entry) ≡ Some result.0 }
+        ensures cert { cert_in (plain_document self.entry) ≡ Some (plain_cert result.1) }
+    {
+        match self {
+            Document::Graph(graph, given) => match given {
+                Some(cert) => (graph, cert),
+                None => unreachable!(),
+            },
             _ => unreachable!(),
         }
     }

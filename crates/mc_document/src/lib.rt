@@ -1,14 +1,16 @@
 //! Documents: which sections a text has, and of which kinds. A document is a circuit, or a pattern, behind which the change
-//! of its outcomes may stand.
+//! of its outcomes may stand, or an open graph, behind which a certificate may stand.
 //!
 //! `document` has the type and how it is looked at, `takes` which kinds of document and of second section may stand, `read`
-//! how a text is read, `print` the canonical text, `laws` what is proved of texts and documents.
+//! how a text is read, `second` how what stands behind the first section is, `print` the canonical text, `laws` what is
+//! proved of texts and documents.
 #![tactic(auto)]
 
 mod document;
 mod laws;
 mod print;
 mod read;
+mod second;
 mod takes;
 #[cfg(test)]
 mod tests;
@@ -18,6 +20,6 @@ pub use laws::{
     canonical_texts_are_read, canonical_texts_differ, clean_texts_spell_documents,
     taken_documents_are_seen,
 };
-pub use print::{print_document, print_with_change};
+pub use print::{print_document, print_with_cert, print_with_change};
 pub use read::{read_document, read_placed};
 pub use takes::Takes;

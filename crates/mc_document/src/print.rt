@@ -1,14 +1,21 @@
 //! Printing a document.
 
-ghost use Rattle.std.specs.Prelude.{◌≡◌, ◌++◌, IfOk};
+ghost use Rattle.std.specs.Prelude.{◌≡◌, ◌++◌, IfOk, OnOk, option_map};
+ghost use Rattle.mc_model.specs.Shift.{IsChangeOf};
 ghost use Rattle.mc_pattern_text.specs.Canonical.{pattern_text};
 ghost use Rattle.mc_pattern_text.specs.ChangeCanonical.{change_text};
-ghost use Rattle.mc_model.specs.Shift.{IsChangeOf};
-ghost use Rattle.mc_document.specs.Documents.{change_behind, document_text};
-ghost use Rattle.mc_document.specs.Documents.{IsAnyChangeOf, IsDocument, plain_document};
+ghost use Rattle.mc_graph_text.specs.Canonical.{graph_text};
+ghost use Rattle.mc_cert_text.specs.Canonical.{cert_text};
+ghost use Rattle.mc_cert_text.specs.Certs.{HasShortNumbers, IsCertIn, IsCertOf, plain_cert};
+ghost use Rattle.mc_document.specs.Documents.{cert_behind, change_behind, document_text};
+ghost use Rattle.mc_document.specs.Documents.{IsAnyCertOf, IsAnyChangeOf, IsDocument};
+ghost use Rattle.mc_document.specs.Documents.{plain_document};
 
 use crate::document::Document;
+use mc_cert_text::{Cert, print_cert};
 use mc_circuit::print_circuit;
+use mc_graph::OpenGraph;
+use mc_graph_text::print_graph;
 use mc_model::Memory;
 use mc_pattern::{Change, Pattern};
 use mc_pattern_text::{print_change, print_pattern};
@@ -20,11 +27,12 @@ pub fn print_document<const H: usize>(
     document: &Document<H>,
 ) -> Result<Vec<u8>, Memory>
     requires { IsDocument H (plain_document document.now) }
-    ensures { IfOk result (λ text. text.items ≡ document_text (plain_document document.now)) }
+    ensures { IfOk result (λ text. text.items ≡ document_text H (plain_document document.now)) }
 {
     match document {
         Document::Circuit(circuit) => print_circuit(alloc, circuit),
         Document::Pattern(pattern, change) => print_with_any(alloc, pattern, change),
+        Document::Graph(graph, cert) => print_with_any_cert(alloc, graph, cert),
     }
 }
 
@@ -56,6 +64,42 @@ pub fn print_with_change<const H: usize>(
 {
     let mut text = print_pattern(alloc, pattern)?;
     let behind = print_change(alloc, pattern, change)?;
+    match text.extend_from_slice(behind.as_slice()) {
+        Ok(()) => Ok(text),
+        Err(_) => Err(Memory),
+    }
+}
+
+/// The text of a graph with its certificate behind it, if there is one.
+fn print_with_any_cert<const H: usize>(
+    alloc: Global,
+    graph: &OpenGraph<H>,
+    cert: &Option<Cert>,
+) -> Result<Vec<u8>, Memory>
+    requires { IsAnyCertOf graph.now (option_map plain_cert cert.now) }
+    ensures { IfOk result (λ text. text.items ≡
+        graph_text H graph.now ++ cert_behind graph.now (option_map plain_cert cert.now)) }
+{
+    match cert {
+        None => print_graph(alloc, graph),
+        Some(cert) => print_with_cert(alloc, graph, cert),
+    }
+}
+
+/// The text of a graph with a certificate behind it.
+pub fn print_with_cert<const H: usize>(
+    alloc: Global,
+    graph: &OpenGraph<H>,
+    cert: &Cert,
+) -> Result<Vec<u8>, Memory>
+    requires inside { IsCertIn graph.now (plain_cert cert.now) }
+    requires numbers { HasShortNumbers (plain_cert cert.now) }
+    ensures text { IfOk result (λ text. text.items ≡
+        graph_text H graph.now ++ cert_text graph.now.names (plain_cert cert.now)) }
+    ensures fits { OnOk result (IsCertOf graph.now (plain_cert cert.now)) }
+{
+    let mut text = print_graph(alloc, graph)?;
+    let behind = print_cert(alloc, graph, cert)?;
     match text.extend_from_slice(behind.as_slice()) {
         Ok(()) => Ok(text),
         Err(_) => Err(Memory),

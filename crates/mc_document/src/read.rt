@@ -1,29 +1,30 @@
 //! Reading a text as a document.
 
-ghost use Rattle.std.specs.Prelude.{◌≡◌, ℕ, ◌≤◌, length, [], None, Some, OnOk, IfOk, IfErr, IsTrue};
-ghost use Rattle.mc_lex.specs.declared.kind.Kind.TheVariants as kind;
-ghost use Rattle.mc_model.specs.Limits.{most_bytes};
+ghost use Rattle.std.specs.Prelude.{◌≡◌, ◌≤◌, length, [], None, Some, OnOk, IfOk, IfErr, IsTrue};
+ghost use Rattle.mc_lex.specs.Left.{IsFurther};
 ghost use Rattle.mc_model.specs.Limits.{most_bytes};
 ghost use Rattle.mc_model.specs.Steps.{is_permitted};
-ghost use Rattle.mc_lex.specs.Left.{IsFurther};
 ghost use Rattle.mc_text.specs.Judged.{behind_section, first_in_section, section_lines};
 ghost use Rattle.mc_text.specs.Stops.{IsEnd};
+ghost use Rattle.mc_circuit.specs.Value.{circuit_of};
 ghost use Rattle.mc_pattern_text.specs.Judge.{pattern_rules};
 ghost use Rattle.mc_pattern_text.specs.Value.{pattern_of};
-ghost use Rattle.mc_document.specs.Documents.{HasNoConstants, IsAnyChangeOf, IsDocument, circuit};
-ghost use Rattle.mc_document.specs.Documents.{plain_document};
+ghost use Rattle.mc_document.specs.Documents.{HasNoConstants, IsDocument, plain_document};
 ghost use Rattle.mc_document.specs.Kinds.{IsTaken};
-ghost use Rattle.mc_document.specs.Sections.{StartsDocument, first_behind, first_behind_pattern};
-ghost use Rattle.mc_document.specs.Sections.{first_in_kind, first_in_lines, first_in_text, spelled};
-ghost use Rattle.mc_document.specs.Sections.{spelled_change, spelled_in_kind, spelled_lines};
+ghost use Rattle.mc_document.specs.Sections.{StartsDocument, first_in_circuit, first_in_graph};
+ghost use Rattle.mc_document.specs.Sections.{first_in_kind, first_in_lines, first_in_pattern};
+ghost use Rattle.mc_document.specs.Sections.{first_in_text, spelled, spelled_graph};
+ghost use Rattle.mc_document.specs.Sections.{spelled_in_kind, spelled_lines, spelled_pattern};
 ghost use Rattle.mc_document.specs.Places.{first_place, place_in_lines};
 
 use crate::document::{Document, Placed};
-use crate::takes::{BehindPattern, Takes};
+use crate::second::{read_behind_graph, read_behind_pattern, read_nothing};
+use crate::takes::{First, Takes};
 use mc_circuit::{Circuit, read_circuit};
-use mc_lex::{Kind, TextEnd, Token, Words};
-use mc_pattern::{Change, Pattern};
-use mc_pattern_text::{read_change, read_pattern};
+use mc_graph_text::read_graph;
+use mc_lex::{Kind, TextEnd, Words};
+use mc_pattern::Pattern;
+use mc_pattern_text::read_pattern;
 use mc_text::{Fault, Header, read_header};
 use std::alloc::Global;
 
@@ -64,11 +65,11 @@ pub fn read_placed<const H: usize>(
     ensures err { IfErr result (λ end. IsEnd end (first_in_text H takes text.now)) }
 {
     let mut words = Words::new(text);
-    let header = match read_opening(takes, &mut words) {
+    let header = match read_opening::<H>(takes, &mut words) {
         Ok(header) => header,
         Err(end) => return Err(end),
     };
-    match read_sections(alloc, header.kind, &mut words) {
+    match read_sections(alloc, takes, header, &mut words) {
         Ok(document) => Ok(Placed {
             document,
             line: header.line,
@@ -79,23 +80,21 @@ pub fn read_placed<const H: usize>(
 }
 
 /// Reads the header of a document, which is the first line with a token: what is left is of the kind that it names.
-fn read_opening(takes: Takes, words: &mut Words<'_>) -> Result<Header, TextEnd>
-    ensures first { IfOk result (λ header. (half : ℕ) →
-        first_in_lines half takes words.old.later words.old.last
-        ≡ first_in_kind half (Some header.kind) words.new.later words.new.last) }
-    ensures value { IfOk result (λ header. (half : ℕ) →
-        spelled_lines half words.old.later ≡ spelled_in_kind half (Some header.kind) words.new.later) }
+fn read_opening<const H: usize>(takes: Takes, words: &mut Words<'_>) -> Result<Header, TextEnd>
+    ensures first { IfOk result (λ header. first_in_lines H takes words.old.later words.old.last
+        ≡ first_in_kind H takes (Some header.kind) header.version words.new.later words.new.last) }
+    ensures value { IfOk result (λ header.
+        spelled_lines H words.old.later ≡ spelled_in_kind H (Some header.kind) words.new.later) }
     ensures place { IfOk result (λ header.
         place_in_lines words.old.later words.old.last ≡ (header.line, header.column)) }
     ensures starts { IfOk result (λ header. StartsDocument header.kind) }
-    ensures err { IfErr result (λ end. (half : ℕ) →
-        IsEnd end (first_in_lines half takes words.old.later words.old.last)) }
+    ensures err { IfErr result (λ end. IsEnd end (first_in_lines H takes words.old.later words.old.last)) }
 {
     if !words.next_line() {
         let (line, column) = words.end_place();
         return Err(Fault::NoKind.at(line, column));
     }
-    match read_header(&takes, words) {
+    match read_header(&First::<H> { takes }, words) {
         Ok(header) => Ok(header),
         Err(end) => Err(end),
     }
@@ -104,23 +103,27 @@ fn read_opening(takes: Takes, words: &mut Words<'_>) -> Result<Header, TextEnd>
 /// Reads the lines of a document behind its header, behind which nothing more may stand.
 fn read_sections<const H: usize>(
     alloc: Global,
-    kind: Kind,
+    takes: Takes,
+    header: Header,
     words: &mut Words<'_>,
 ) -> Result<Document<H>, TextEnd>
     requires permitted { IsTrue (is_permitted H) }
-    requires starts { StartsDocument kind }
-    ensures clean { OnOk result (first_in_kind H (Some kind) words.old.later words.old.last ≡ None) }
+    requires starts { StartsDocument header.kind }
+    ensures clean { OnOk result
+        (first_in_kind H takes (Some header.kind) header.version words.old.later words.old.last ≡ None) }
     ensures value { IfOk result (λ document.
-        spelled_in_kind H (Some kind) words.old.later ≡ Some (plain_document document)) }
+        spelled_in_kind H (Some header.kind) words.old.later ≡ Some (plain_document document)) }
     ensures valid { IfOk result (λ document. IsDocument H (plain_document document)) }
-    ensures err { IfErr result (λ end. IsEnd end (first_in_kind H (Some kind) words.old.later words.old.last)) }
+    ensures err { IfErr result (λ end. IsEnd end
+        (first_in_kind H takes (Some header.kind) header.version words.old.later words.old.last)) }
 {
-    match kind {
+    match header.kind {
         Kind::Circuit => match read_circuit_alone(alloc, words) {
             Ok(circuit) => Ok(Document::Circuit(circuit)),
             Err(end) => Err(end),
         },
         Kind::Pattern => read_pattern_document(alloc, words),
+        Kind::Graph => read_graph_document(alloc, words, header.version, takes.cert),
         _ => unreachable!(),
     }
 }
@@ -131,12 +134,9 @@ fn read_circuit_alone<const H: usize>(
     words: &mut Words<'_>,
 ) -> Result<Circuit<H>, TextEnd>
     requires { IsTrue (is_permitted H) }
-    ensures clean { OnOk result
-        (first_in_kind H (Some kind.Circuit) words.old.later words.old.last ≡ None) }
-    ensures value { IfOk result (λ c.
-        spelled_in_kind H (Some kind.Circuit) words.old.later ≡ Some (circuit c)) }
-    ensures err { IfErr result (λ end.
-        IsEnd end (first_in_kind H (Some kind.Circuit) words.old.later words.old.last)) }
+    ensures clean { OnOk result (first_in_circuit words.old.later words.old.last ≡ None) }
+    ensures value { IfOk result (λ c. c ≡ circuit_of H (section_lines words.old.later)) }
+    ensures err { IfErr result (λ end. IsEnd end (first_in_circuit words.old.later words.old.last)) }
 {
     let circuit = match read_circuit(alloc, words) {
         Ok(circuit) => circuit,
@@ -154,13 +154,11 @@ fn read_pattern_document<const H: usize>(
     words: &mut Words<'_>,
 ) -> Result<Document<H>, TextEnd>
     requires { IsTrue (is_permitted H) }
-    ensures clean { OnOk result
-        (first_in_kind H (Some kind.Pattern) words.old.later words.old.last ≡ None) }
+    ensures clean { OnOk result (first_in_pattern H words.old.later words.old.last ≡ None) }
     ensures value { IfOk result (λ document.
-        spelled_in_kind H (Some kind.Pattern) words.old.later ≡ Some (plain_document document)) }
+        spelled_pattern H words.old.later ≡ plain_document document) }
     ensures valid { IfOk result (λ document. IsDocument H (plain_document document)) }
-    ensures err { IfErr result (λ end.
-        IsEnd end (first_in_kind H (Some kind.Pattern) words.old.later words.old.last)) }
+    ensures err { IfErr result (λ end. IsEnd end (first_in_pattern H words.old.later words.old.last)) }
 {
     let pattern = match read_plain_pattern(alloc, words) {
         Ok(pattern) => pattern,
@@ -168,6 +166,32 @@ fn read_pattern_document<const H: usize>(
     };
     match read_behind_pattern(alloc, words, &pattern) {
         Ok(change) => Ok(Document::Pattern(pattern, change)),
+        Err(end) => Err(end),
+    }
+}
+
+/// Reads the lines of a graph of a version, behind which a certificate may stand, and nothing more; where one is due, it
+/// must.
+fn read_graph_document<const H: usize>(
+    alloc: Global,
+    words: &mut Words<'_>,
+    version: u8,
+    due: bool,
+) -> Result<Document<H>, TextEnd>
+    requires { IsTrue (is_permitted H) }
+    ensures clean { OnOk result
+        (first_in_graph H due version words.old.later words.old.last ≡ None) }
+    ensures value { IfOk result (λ document. spelled_graph H words.old.later ≡ plain_document document) }
+    ensures valid { IfOk result (λ document. IsDocument H (plain_document document)) }
+    ensures err { IfErr result (λ end.
+        IsEnd end (first_in_graph H due version words.old.later words.old.last)) }
+{
+    let graph = match read_graph(alloc, words, version) {
+        Ok(graph) => graph,
+        Err(end) => return Err(end),
+    };
+    match read_behind_graph(alloc, words, &graph, due) {
+        Ok(cert) => Ok(Document::Graph(graph, cert)),
         Err(end) => Err(end),
     }
 }
@@ -186,48 +210,4 @@ fn read_plain_pattern<const H: usize>(
     ensures err { IfErr result (λ end. IsEnd end (first_in_section pattern_rules [] words.old.later words.old.last)) }
 {
     read_pattern(alloc, words)
-}
-
-/// Reads a change, where one stands behind a pattern, and nothing more.
-fn read_behind_pattern<const H: usize>(
-    alloc: Global,
-    words: &mut Words<'_>,
-    pattern: &Pattern<H>,
-) -> Result<Option<Change>, TextEnd>
-    ensures clean { OnOk result
-        (first_behind_pattern pattern.now words.old.later words.old.last ≡ None) }
-    ensures value { IfOk result (λ change. spelled_change pattern.now words.old.later ≡ change) }
-    ensures valid { IfOk result (IsAnyChangeOf pattern.now) }
-    ensures err { IfErr result (λ end.
-        IsEnd end (first_behind_pattern pattern.now words.old.later words.old.last)) }
-{
-    if !words.next_line() {
-        return Ok(None);
-    }
-    if let Err(end) = read_header(&BehindPattern, words) {
-        return Err(end);
-    }
-    let change = match read_change(alloc, words, pattern) {
-        Ok(change) => change,
-        Err(end) => return Err(end),
-    };
-    match read_nothing(words) {
-        Ok(()) => Ok(Some(change)),
-        Err(end) => Err(end),
-    }
-}
-
-/// That no line with a token stands behind.
-fn read_nothing(words: &mut Words<'_>) -> Result<(), TextEnd>
-    ensures clean { OnOk result (first_behind words.old.later ≡ None) }
-    ensures err { IfErr result (λ end. IsEnd end (first_behind words.old.later)) }
-{
-    if !words.next_line() {
-        return Ok(());
-    }
-    match words.next() {
-        Token::Word(word) => Err(Fault::BehindEnd.at(word.line, word.column)),
-        Token::Bad { line, column } => Err(Fault::StrayByte.at(line, column)),
-        Token::End { .. } => Ok(()),
-    }
 }

@@ -1,22 +1,24 @@
 //! The kinds of document that a command takes.
 
 ghost use Rattle.std.specs.Prelude.{◌≡◌};
-ghost use Rattle.mc_document.specs.Kinds.{circuits_and_patterns, every_kind, only_circuits};
-ghost use Rattle.mc_document.specs.Kinds.{only_patterns, unless_taken};
+ghost use Rattle.mc_document.specs.Kinds.{graph_form, unless_taken};
 
 use mc_lex::Kind;
-use mc_text::{Fault, Form, Kinds};
+use mc_text::{Fault, Form, Kinds, Turning};
 
-/// The kinds of document that a command takes. A change may stand behind a pattern.
+/// The kinds of document that a command takes. A change may stand behind a pattern, and a certificate behind a graph;
+/// with `cert` one must stand there.
 #[derive(Clone, Copy, Debug, PartialEq, Eq)]
 pub struct Takes {
     pub circuit: bool,
     pub pattern: bool,
+    pub graph: bool,
+    pub cert: bool,
 }
 
 impl Takes {
     ghost use Rattle.mc_document.specs.Kinds.{circuits_and_patterns, every_kind, only_circuits};
-    ghost use Rattle.mc_document.specs.Kinds.{only_patterns};
+    ghost use Rattle.mc_document.specs.Kinds.{only_patterns, patterns_and_graphs, certified_graphs};
 
     /// Circuits alone.
     pub fn circuits() -> Takes
@@ -25,6 +27,8 @@ impl Takes {
         Takes {
             circuit: true,
             pattern: false,
+            graph: false,
+            cert: false,
         }
     }
 
@@ -35,6 +39,8 @@ impl Takes {
         Takes {
             circuit: false,
             pattern: true,
+            graph: false,
+            cert: false,
         }
     }
 
@@ -45,6 +51,32 @@ impl Takes {
         Takes {
             circuit: true,
             pattern: true,
+            graph: false,
+            cert: false,
+        }
+    }
+
+    /// Patterns and graphs.
+    pub fn patterns_and_graphs() -> Takes
+        ensures { result ≡ patterns_and_graphs }
+    {
+        Takes {
+            circuit: false,
+            pattern: true,
+            graph: true,
+            cert: false,
+        }
+    }
+
+    /// Graphs, each with a certificate.
+    pub fn certified_graphs() -> Takes
+        ensures { result ≡ certified_graphs }
+    {
+        Takes {
+            circuit: false,
+            pattern: false,
+            graph: true,
+            cert: true,
         }
     }
 
@@ -55,6 +87,8 @@ impl Takes {
         Takes {
             circuit: true,
             pattern: true,
+            graph: true,
+            cert: false,
         }
     }
 }
@@ -70,22 +104,41 @@ fn unless_taken(taken: bool) -> Option<Fault>
     }
 }
 
-impl Kinds for Takes {
-    ghost use Rattle.mc_text.specs.Headers.{plain_forms};
-    ghost use Rattle.mc_text.specs.declared.fault.Fault.TheVariants.{NoKind};
-    ghost use Rattle.mc_document.specs.Kinds.{refused_kind};
+/// What the header of a graph may say, with so many steps in half a turn.
+fn graph_form(half: usize) -> Form
+    ensures { result ≡ graph_form half }
+{
+    Form {
+        second: true,
+        turning: if half == 8 {
+            Turning::Like(8)
+        } else {
+            Turning::Unsaid
+        },
+    }
+}
 
-    ghost refused = { refused_kind };
+/// The kinds with which a document may begin, with angles of `H` steps in half a turn.
+#[derive(Clone, Copy)]
+pub(crate) struct First<const H: usize> {
+    pub(crate) takes: Takes,
+}
+
+impl<const H: usize> Kinds for First<H> {
+    ghost use Rattle.mc_text.specs.declared.fault.Fault.TheVariants.{NoKind};
+    ghost use Rattle.mc_document.specs.Kinds.{first_form, refused_kind};
+
+    ghost refused = { λ first. refused_kind first.takes };
 
     ghost unknown = { λ _. NoKind };
 
-    ghost form = { λ _. plain_forms };
+    ghost form = { λ _. first_form H };
 
     fn refused(&self, kind: Kind) -> Option<Fault> {
         match kind {
-            Kind::Circuit => unless_taken(self.circuit),
-            Kind::Pattern => unless_taken(self.pattern),
-            Kind::Graph => Some(Fault::KindNotTaken),
+            Kind::Circuit => unless_taken(self.takes.circuit),
+            Kind::Pattern => unless_taken(self.takes.pattern),
+            Kind::Graph => unless_taken(self.takes.graph),
             _ => Some(Fault::NoKind),
         }
     }
@@ -94,21 +147,24 @@ impl Kinds for Takes {
         Fault::NoKind
     }
 
-    fn form(&self, _kind: Kind) -> Form {
-        Form::plain()
+    fn form(&self, kind: Kind) -> Form {
+        match kind {
+            Kind::Graph => graph_form(H),
+            _ => Form::plain(),
+        }
     }
 }
 
 /// The kinds of section that may stand behind a pattern.
-#[derive(Clone, Copy, Debug, PartialEq, Eq)]
+#[derive(Clone, Copy)]
 pub(crate) struct BehindPattern;
 
 impl Kinds for BehindPattern {
     ghost use Rattle.mc_text.specs.Headers.{plain_forms};
     ghost use Rattle.mc_text.specs.declared.fault.Fault.TheVariants.{BehindEnd};
-    ghost use Rattle.mc_document.specs.Kinds.{refused_behind};
+    ghost use Rattle.mc_document.specs.Kinds.{refused_behind_pattern};
 
-    ghost refused = { λ _. refused_behind };
+    ghost refused = { λ _. refused_behind_pattern };
 
     ghost unknown = { λ _. BehindEnd };
 
@@ -117,6 +173,37 @@ impl Kinds for BehindPattern {
     fn refused(&self, kind: Kind) -> Option<Fault> {
         match kind {
             Kind::Change => None,
+            _ => Some(Fault::BehindEnd),
+        }
+    }
+
+    fn unknown(&self) -> Fault {
+        Fault::BehindEnd
+    }
+
+    fn form(&self, _kind: Kind) -> Form {
+        Form::plain()
+    }
+}
+
+/// The kinds of section that may stand behind a graph.
+#[derive(Clone, Copy)]
+pub(crate) struct BehindGraph;
+
+impl Kinds for BehindGraph {
+    ghost use Rattle.mc_text.specs.Headers.{plain_forms};
+    ghost use Rattle.mc_text.specs.declared.fault.Fault.TheVariants.{BehindEnd};
+    ghost use Rattle.mc_document.specs.Kinds.{refused_behind_graph};
+
+    ghost refused = { λ _. refused_behind_graph };
+
+    ghost unknown = { λ _. BehindEnd };
+
+    ghost form = { λ _. plain_forms };
+
+    fn refused(&self, kind: Kind) -> Option<Fault> {
+        match kind {
+            Kind::Flow | Kind::NoFlow | Kind::NoCausal => None,
             _ => Some(Fault::BehindEnd),
         }
     }

@@ -14,3 +14,15 @@ fn reads_and_prints(rt: HostRuntime) -> Result<(), Fail> {
     assert_eq!(&rt; (placed.line, placed.column), (2, 3));
     Ok(())
 }
+
+/// Reads a graph with a fixed correction and a certificate, and compares what is printed of it.
+#[test]
+fn keeps_certificates(rt: HostRuntime) -> Result<(), Fail> {
+    let alloc = rt.alloc();
+    let text =
+        b"graph 2\nin a\nn b\ne a b\nm a 1\nout b\nz b\nend\nnoflow 1\ny a : a\nend\n".as_slice();
+    let read = read_document::<4>(alloc, text, Takes::certified_graphs())?;
+    let printed = print_document(alloc, &read)?;
+    assert_eq!(&rt; printed.as_slice(), text);
+    Ok(())
+}

@@ -3,7 +3,7 @@ use Rattle.mc_document.proofs.Opening.{IsOpened, opened_first, opened_place, ope
 use Rattle.mc_document.proofs.read.read_opening.Goals as goal
 
 pub returns-in-Ok-clause-first : goal.returns-in-Ok-clause-first
-returns-in-Ok-clause-first c =
+returns-in-Ok-clause-first g c =
     let o : IsOpened c.args.words.now.later c.args.words.now.last c.next_line.new.self
     c.read_header.new.words c.in-Ok.header.kind (c.in-Ok.header.line, c.in-Ok.header.column) =
     record {
@@ -13,10 +13,11 @@ returns-in-Ok-clause-first c =
       later = c.read_header.ensures.later;
       last = c.read_header.ensures.end;
     } in
-    λ half. opened_first half c.args.takes _ _ _ _ _ _ o c.in-Ok.ensures.clean
+    rw c.in-Ok.ensures.version
+    (opened_first g.row.H c.args.takes _ _ _ _ _ _ o c.in-Ok.ensures.clean)
 
 pub returns-in-Ok-clause-value : goal.returns-in-Ok-clause-value
-returns-in-Ok-clause-value c =
+returns-in-Ok-clause-value g c =
     let o : IsOpened c.args.words.now.later c.args.words.now.last c.next_line.new.self
     c.read_header.new.words c.in-Ok.header.kind (c.in-Ok.header.line, c.in-Ok.header.column) =
     record {
@@ -26,10 +27,10 @@ returns-in-Ok-clause-value c =
       later = c.read_header.ensures.later;
       last = c.read_header.ensures.end;
     } in
-    λ half. opened_spelled half _ _ _ _ _ _ o
+    opened_spelled g.row.H _ _ _ _ _ _ o
 
 pub returns-in-Ok-clause-place : goal.returns-in-Ok-clause-place
-returns-in-Ok-clause-place c =
+returns-in-Ok-clause-place g c =
     let o : IsOpened c.args.words.now.later c.args.words.now.last c.next_line.new.self
     c.read_header.new.words c.in-Ok.header.kind (c.in-Ok.header.line, c.in-Ok.header.column) =
     record {

@@ -9,16 +9,16 @@ pub returns-in-Err-clause-err : goal.returns-in-Err-clause-err
 returns-in-Err-clause-err g c =
     subst
     (λ (left : Left). IsEnd c.in-Err.end (first_in_lines g.row.H c.args.takes left.later left.last))
-    c.new-words.ensures.lines (c.in-Err.ensures.err g.row.H)
+    c.new-words.ensures.lines c.in-Err.ensures.err
 
 pub returns-in-Ok-read_sections-clause-taken : goal.returns-in-Ok-read_sections-clause-taken
 returns-in-Ok-read_sections-clause-taken g c =
     let begun = sym c.new-words.ensures.lines in
     let clean : first_in_text g.row.H c.args.takes c.args.text.now ≡ None =
     ap (λ (left : Left). first_in_lines g.row.H c.args.takes left.later left.last) begun
-    ∙ c.in-Ok.ensures.first g.row.H
+    ∙ c.in-Ok.ensures.first
     ∙ c.in-Ok-read_sections.ensures.clean in
     let value = ap (λ (left : Left). spelled_lines g.row.H left.later) begun
-    ∙ c.in-Ok.ensures.value g.row.H
+    ∙ c.in-Ok.ensures.value
     ∙ c.in-Ok-read_sections.ensures.value in
     taken_by g.row.H c.args.takes c.args.text.now _ clean value
