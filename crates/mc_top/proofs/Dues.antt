@@ -110,28 +110,6 @@ limit_of_pattern d none = by_circuit (circuit_in d) none
     by_circuit None none = refl
     by_circuit (Some c) none = absurd (cc none)
 
--- what `run` gives for a pattern, and what it means
-pub run_of_pattern : (half : ℕ) (d : PlainDocument) (p : Pattern)
-    (given : Result Answer TextEnd) → is_some (circuit_in d) ≡ false → pattern_in d ≡ Some p →
-    Gives given (due_branches half p) → IsSomeAnd (due_run half d) (Gives given)
-run_of_pattern half d p given none found h = by_circuit (circuit_in d) none
-  where
-    by_circuit : (o : Option Circuit) → is_some o ≡ false →
-        IsSomeAnd (option_or (option_map (due_table half) o)
-        (option_map (due_branches half) (pattern_in d))) (Gives given)
-    by_circuit None none = rw found h
-    by_circuit (Some c) none = absurd (cc none)
-
-pub run_means_pattern : (half : ℕ) (d : PlainDocument) (p : Pattern) →
-    is_some (circuit_in d) ≡ false → pattern_in d ≡ Some p → MeansBranches half p →
-    MeansRun half d
-run_means_pattern half d p none found h = by_circuit (circuit_in d) none
-  where
-    by_circuit : (o : Option Circuit) → is_some o ≡ false →
-        MatchOption o (IsSomeAnd (pattern_in d) (MeansBranches half)) (MeansTable half)
-    by_circuit None none = rw found h
-    by_circuit (Some c) none = absurd (cc none)
-
 -- what was made of a circuit was made of its document
 pub circuit_source : (half : ℕ) (d : PlainDocument) (c : Circuit) (made : Result Pattern TextEnd) →
     circuit_in d ≡ Some c → IfOk made (λ p. p ≡ translation half c) →

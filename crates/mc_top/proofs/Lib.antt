@@ -3,3 +3,17 @@ pub mod Serving
 pub mod ChangesFit
 pub mod ShiftedForms
 pub mod AllBranches
+pub mod LeastDepths
+pub mod FlowsFit
+pub mod OrderedRows
+pub mod OneChoice
+pub mod Findings
+pub mod CertifiedGraphs
+pub mod Compilations
+pub mod SampleNumbers
+pub mod Samples
+pub mod Making
+pub mod SameMade
+pub mod SameExtracted
+pub mod OneMade
+pub mod OneDue

@@ -3,52 +3,63 @@ use Rattle.std.proofs.Common.{◌≡◌, ◌⊎◌, ℕ, ◌+◌, ◌<◌, ◌�
 use Rattle.std.proofs.Common.{nat_lt, Option, Some, None, Result, Ok, Err, refl, sym, subst, ap}
 use Rattle.std.proofs.Common.{inl, inr, ◌∙◌, arith, IsTrue, length-append}
 use Rattle.std.specs.Prelude.{is_some, IsSomeAnd, IfSome, OnOk, if◌then◌else◌, ⊤}
-use Rattle.std.specs.Option.{option_map, option_or, option_and_then}
+use Rattle.std.specs.Option.{option_map, option_or}
 use Rattle.std.specs.Io.KnownBytes.{Consumes}
 use Rattle.std.proofs.lemmas.Bool.Decides.{nat_tests}
 use Rattle.mc_io.specs.Calls.{Reads, ReadsOnThen}
-use Rattle.mc_io.specs.Told.{AppendsPrefix, AppendsWhereTold, Takes, TellsAsBefore}
+use Rattle.mc_io.specs.Told.{AppendsPrefix, AppendsWhereTold, Takes}
 use Rattle.mc_lex.specs.declared.end.TextEnd.{TextEnd}
 use Rattle.mc_lex.specs.declared.end.TextEnd.TheVariants as end
 use Rattle.mc_model.specs.Pattern.{Circuit, Pattern}
 use Rattle.mc_model.specs.Translation.{translation}
 use Rattle.mc_text.specs.Judged.{Judgement, Place}
 use Rattle.mc_text.specs.Stops.{answered, IsEnd}
-use Rattle.mc_document.specs.declared.takes.Takes as document
-use Rattle.mc_document.specs.Documents.{IsDocument, PlainDocument, circuit_in, pattern_in}
-use Rattle.mc_document.specs.Kinds.{IsTaken, circuits_and_patterns, only_circuits, only_patterns}
+use Rattle.mc_document.specs.declared.takes.Takes as takes
+use Rattle.mc_document.specs.Documents as document
+use Rattle.mc_document.specs.Documents.{IsDocument, PlainDocument, circuit_in, document_text}
+use Rattle.mc_document.specs.Documents.{pattern_in}
+use Rattle.mc_document.specs.Kinds.{IsTaken, circuits_and_patterns, only_circuits}
+use Rattle.mc_document.specs.Kinds.{patterns_and_graphs}
 use Rattle.mc_document.specs.Places.{first_place}
 use Rattle.mc_document.specs.Sections.{first_in_text, spelled}
 use Rattle.mc_top.specs.declared.answer.Answer.{Answer}
 use Rattle.mc_top.specs.declared.status.Status.{Status}
 use Rattle.mc_top.specs.declared.status.Status.TheVariants as status
 use Rattle.mc_top.specs.Commands.{Asked, translate, print, standard, shift, run, run_branch}
-use Rattle.mc_top.specs.Commands.{command_of}
-use Rattle.mc_top.specs.Due.{Due, answer, refusal, Gives}
+use Rattle.mc_top.specs.Commands.{check, chooses, command_of, compile, extract, flow, graph}
+use Rattle.mc_top.specs.Commands.{make}
+use Rattle.mc_top.specs.Due.{Due, answer, refusal, holding, Gives, GivesDue, IsDueUnless}
 use Rattle.mc_top.specs.Ends.{status_by_end}
-use Rattle.mc_top.specs.Serve.{Appends, IsAnswer, IsAnsweredFor, IsStatus, MakesReadsFor, MeansIn}
-use Rattle.mc_top.specs.Serve.{due_in, due_of, due_spelled, half_of, status_of, unless_refused}
-use Rattle.mc_top.specs.Source.{source_in}
+use Rattle.mc_top.specs.Requests.{Request}
+use Rattle.mc_top.specs.Serve.{Appends, IsAnsweredFor, IsDue, IsDueIn, IsDueSpelled, IsStatus}
+use Rattle.mc_top.specs.Serve.{MakesReadsFor, MeansIn, half_of, too_long}
+use Rattle.mc_top.specs.Check.{certified_in}
+use Rattle.mc_top.specs.Source.{run_source_in, source_in}
+use Rattle.mc_top.proofs.CertifiedGraphs.{certified_seen}
 
 -- ---- something is due
 
 -- what a kind that is taken has to look at
 pub record AreSeen : Type 0 where
   pub circuit : (d : PlainDocument) → IsTaken only_circuits d → IsTrue (is_some (circuit_in d))
-  pub pattern : (d : PlainDocument) → IsTaken only_patterns d → IsTrue (is_some (pattern_in d))
   pub other : (d : PlainDocument) → IsTaken circuits_and_patterns d →
       is_some (circuit_in d) ≡ false → IsTrue (is_some (pattern_in d))
 
+-- what there is of an option
+some_value : {A : Type 0} (o : Option A) → IsTrue (is_some o) → (x : A) × (o ≡ Some x)
+some_value None h = absurd (cc h)
+some_value (Some x) h = (x, refl)
+
 mapped : {A B : Type 0} (f : A → B) (o : Option A) → IsTrue (is_some o) →
-    IsTrue (is_some (option_map f o))
+    (y : B) × (option_map f o ≡ Some y)
 mapped f None h = absurd (cc h)
-mapped f (Some x) h = refl
+mapped f (Some x) h = (f x, refl)
 
 one_of : {A B C : Type 0} (f : A → C) (g : B → C) (o : Option A) (o' : Option B) →
     (is_some o ≡ false → IsTrue (is_some o')) →
-    IsTrue (is_some (option_or (option_map f o) (option_map g o')))
+    (y : C) × (option_or (option_map f o) (option_map g o') ≡ Some y)
 one_of f g None o' h = mapped g o' (h refl)
-one_of f g (Some x) o' h = refl
+one_of f g (Some x) o' h = (f x, refl)
 
 source_seen : AreSeen → (half : ℕ) (d : PlainDocument) → IsTaken circuits_and_patterns d →
     IsTrue (is_some (source_in half d))
@@ -59,85 +70,117 @@ source_seen seen half d taken = by_circuit (circuit_in d) (seen.other d taken)
     by_circuit None h = h refl
     by_circuit (Some c) h = refl
 
+-- what is run where the document is no circuit
+run_seen : (d : PlainDocument) → is_some (circuit_in d) ≡ false →
+    IsTrue (is_some (run_source_in d))
+run_seen (document.circuit c) none = absurd (cc none)
+run_seen (document.pattern p change) none = refl
+run_seen (document.graph g cert) none = refl
+
+branch_seen : (d : PlainDocument) → IsTaken patterns_and_graphs d →
+    IsTrue (is_some (run_source_in d))
+branch_seen (document.circuit c) taken = absurd (cc taken)
+branch_seen (document.pattern p change) taken = refl
+branch_seen (document.graph g cert) taken = refl
+
 command_due : AreSeen → (asked : Asked) (half : ℕ) (place : Place) (d : PlainDocument) →
-    IsTaken (command_of asked).takes d → IsTrue (is_some ((command_of asked).due half place d))
-command_due seen translate half place d taken = mapped _ (circuit_in d) (seen.circuit d taken)
-command_due seen print half place d taken = refl
-command_due seen standard half place d taken =
+    chooses asked ≡ false → IsTaken (command_of asked).takes d →
+    (due : Due) × (command_of asked).IsDue half place d due
+command_due seen translate half place d plain taken = mapped _ (circuit_in d) (seen.circuit d taken)
+command_due seen print half place d plain taken = (holding (document_text half d), refl)
+command_due seen standard half place d plain taken =
     mapped _ (source_in half d) (source_seen seen half d taken)
-command_due seen shift half place d taken =
+command_due seen shift half place d plain taken =
     mapped _ (source_in half d) (source_seen seen half d taken)
-command_due seen run half place d taken =
-    one_of _ _ (circuit_in d) (pattern_in d) (seen.other d taken)
-command_due seen (run_branch outcomes) half place d taken =
-    mapped _ (pattern_in d) (seen.pattern d taken)
+command_due seen run half place d plain taken =
+    one_of _ _ (circuit_in d) (run_source_in d) (run_seen d)
+command_due seen (run_branch outcomes) half place d plain taken =
+    mapped _ (run_source_in d) (branch_seen d taken)
+command_due seen graph half place d plain taken =
+    mapped _ (source_in half d) (source_seen seen half d taken)
+command_due seen flow half place d plain taken = absurd (cc plain)
+command_due seen make half place d plain taken = absurd (cc plain)
+command_due seen extract half place d plain taken = absurd (cc plain)
+command_due seen compile half place d plain taken = absurd (cc plain)
+command_due seen check half place d plain taken =
+    mapped _ (certified_in d) (certified_seen d taken)
 
-unless_some : (first : Option (Judgement × Place)) (due : Option Due) →
-    (first ≡ None → IsTrue (is_some due)) → IsTrue (is_some (unless_refused (answered first) due))
-unless_some None due h = h refl
-unless_some (Some judged) due h = refl
+unless_due : (first : Option TextEnd) (Owed : Due → Type 0) →
+    (first ≡ None → (due : Due) × Owed due) → (due : Due) × IsDueUnless first Owed due
+unless_due None Owed h = h refl
+unless_due (Some end) Owed h = (refusal end, refl)
 
-spelled_due : (found : Option PlainDocument) (due : PlainDocument → Option Due)
-    (P : PlainDocument → Type 0) → IsSomeAnd found P → ((d : PlainDocument) → P d →
-    IsTrue (is_some (due d))) → IsTrue (is_some (option_and_then due found))
-spelled_due None due P h some = absurd h
-spelled_due (Some d) due P h some = some d h
+spelled_due : (found : Option PlainDocument) (P : PlainDocument → Type 0)
+    (Owed : PlainDocument → Due → Type 0) → IsSomeAnd found P → ((d : PlainDocument) → P d →
+    (due : Due) × Owed d due) → (due : Due) × IsSomeAnd found (λ d. Owed d due)
+spelled_due None P Owed h some = absurd h
+spelled_due (Some d) P Owed h some = some d h
+
+none_answered : (first : Option (Judgement × Place)) → answered first ≡ None → first ≡ None
+none_answered None h = refl
+none_answered (Some judged) h = absurd (cc h)
 
 -- texts without faults spell documents that are taken
 abbrev pub AreTaken : Type 0
-AreTaken = (half : ℕ) (takes : document.Takes) (text : List ℕ) → first_in_text half takes text ≡ None →
-    IsSomeAnd (spelled half text) (IsTaken takes)
+AreTaken = (half : ℕ) (kinds : takes.Takes) (text : List ℕ) →
+    first_in_text half kinds text ≡ None → IsSomeAnd (spelled half text) (IsTaken kinds)
 
 pub in_due : AreSeen → AreTaken → (half : ℕ) (asked : Asked) (text : List ℕ) →
-    IsTrue (is_some (due_in half asked text))
-in_due seen are_taken half asked text =
-    unless_some (first_in_text half (command_of asked).takes text) (due_spelled half asked text)
-    (λ clean. spelled_due (spelled half text) _ (IsTaken (command_of asked).takes)
-    (are_taken half (command_of asked).takes text clean)
-    (λ d taken. command_due seen asked half (first_place text) d taken))
+    chooses asked ≡ false → (due : Due) × IsDueIn half asked text due
+in_due seen are_taken half asked text plain =
+    unless_due (answered (first_in_text half (command_of asked).takes text))
+    (IsDueSpelled half asked text)
+    (λ clean. spelled_due (spelled half text) (IsTaken (command_of asked).takes)
+    ((command_of asked).IsDue half (first_place text))
+    (are_taken half (command_of asked).takes text
+    (none_answered (first_in_text half (command_of asked).takes text) clean))
+    (λ d taken. command_due seen asked half (first_place text) d plain taken))
 
-if_due : (t : Bool) (x y : Option Due) → IsTrue (is_some x) → IsTrue (is_some y) →
-    IsTrue (is_some (if t then x else y))
-if_due true x y h k = h
-if_due false x y h k = k
-
-pub of_due : AreSeen → AreTaken → (asked : Asked) (text : List ℕ) →
-    IsTrue (is_some (due_of asked text))
-of_due seen are_taken asked text =
-    if_due (nat_lt 8388608 (length text)) _ (due_in (half_of text) asked text) refl
-    (in_due seen are_taken (half_of text) asked text)
+pub of_due : AreSeen → AreTaken → (asked : Asked) (text : List ℕ) → chooses asked ≡ false →
+    (due : Due) × IsDue asked text due
+of_due seen are_taken asked text plain =
+    unless_due (too_long text) (IsDueIn (half_of text) asked text)
+    (λ short. in_due seen are_taken (half_of text) asked text plain)
 
 -- ---- what is given for a text
 
-pub some_all : (o : Option Due) (P : Due → Type 0) → IsTrue (is_some o) → ((due : Due) → P due) →
-    IsSomeAnd o P
-some_all None P some all = absurd (cc some)
-some_all (Some due) P some all = all due
+-- what is given where one thing is due
+pub gives_some : (o : Option Due) (given : Result Answer TextEnd) → IsSomeAnd o (Gives given) →
+    GivesDue (λ due. o ≡ Some due) given
+gives_some None given h = absurd h
+gives_some (Some due) (Ok made) h = ap Some h
+gives_some (Some due) (Err (end.Refused code line column)) h = ap Some h
+gives_some (Some due) (Err (end.Limit which found)) h = ap Some h
+gives_some (Some due) (Err end.Memory) h = tt
 
-pub some_map : (o : Option Due) (P Q : Due → Type 0) → ((due : Due) → P due → Q due) →
-    IsSomeAnd o P → IsSomeAnd o Q
-some_map None P Q f h = absurd h
-some_map (Some due) P Q f h = f due h
+-- where no refusal comes first
+pub gives_unless : (first : Option TextEnd) (Owed : Due → Type 0)
+    (given : Result Answer TextEnd) → first ≡ None → GivesDue Owed given →
+    GivesDue (IsDueUnless first Owed) given
+gives_unless first Owed (Ok made) none h = rw none h
+gives_unless first Owed (Err (end.Refused code line column)) none h = rw none h
+gives_unless first Owed (Err (end.Limit which found)) none h = rw none h
+gives_unless first Owed (Err end.Memory) none h = tt
 
 -- the refusal of a text
-pub end_gives : (given : TextEnd) (first : Option (Judgement × Place)) (due : Option Due) →
-    IsEnd given first → IsTrue (is_some (unless_refused (answered first) due)) →
-    IsSomeAnd (unless_refused (answered first) due) (Gives (Err given))
-end_gives (end.Refused code line column) first due h some = rw h refl
-end_gives (end.Limit which found) first due h some = rw h refl
-end_gives end.Memory first due h some =
-    some_all (unless_refused (answered first) due) _ some (λ due. tt)
+pub end_gives : (given : TextEnd) (first : Option (Judgement × Place)) (Owed : Due → Type 0) →
+    IsEnd given first → GivesDue (IsDueUnless (answered first) Owed) (Err given)
+end_gives (end.Refused code line column) first Owed h = rw h refl
+end_gives (end.Limit which found) first Owed h = rw h refl
+end_gives end.Memory first Owed h = tt
 
 -- ---- the status
 
-pub due_within : (asked : Asked) (input : List ℕ) → length input ≤ 8388608 →
-    due_of asked input ≡ due_in (half_of input) asked input
-due_within asked input h =
+pub due_within : (asked : Asked) (input : List ℕ) (given : Result Answer TextEnd) →
+    length input ≤ 8388608 → GivesDue (IsDueIn (half_of input) asked input) given →
+    GivesDue (IsDue asked input) given
+due_within asked input given h gives =
     let t : nat_lt 8388608 (length input) ≡ false = grind (arith, nat_tests) in
-    rw t refl
+    let short : too_long input ≡ None = rw t refl in
+    gives_unless (too_long input) (IsDueIn (half_of input) asked input) given short gives
 
 pub due_past : (asked : Asked) (input : List ℕ) → 8388608 < length input →
-    due_of asked input ≡ Some (refusal (end.Limit 1 8388609))
+    IsDue asked input (refusal (end.Limit 1 8388609))
 due_past asked input h =
     let t : nat_lt 8388608 (length input) ≡ true = grind (arith, nat_tests) in
     rw t refl
@@ -163,18 +206,19 @@ of_more (Some l) (Some rest) P n (bytes, long, consumed) p =
     p l (omega arith)
 
 -- the status of a refusal that is due, or of want of memory
-pub refused_status : (given : TextEnd) (due : Due) → Gives (Err given) due →
-    IsStatus due (status_by_end given)
-refused_status (end.Refused code line column) due h = inl (sym (ap status_of h))
-refused_status (end.Limit which found) due h = inl (sym (ap status_of h))
-refused_status end.Memory due h = inr (inr (inl refl))
+pub refused_status : (Owed : Due → Type 0) (given : TextEnd) → GivesDue Owed (Err given) →
+    IsStatus Owed (status_by_end given)
+refused_status Owed (end.Refused code line column) h =
+    inl (refusal (end.Refused code line column), h, refl)
+refused_status Owed (end.Limit which found) h = inl (refusal (end.Limit which found), h, refl)
+refused_status Owed end.Memory h = inr (inr (inl refl))
 
 -- nothing was appended
-pub refused_appends : (given : TextEnd) (old : Option (List ℕ)) (due : Due) →
-    Appends (status_by_end given) old old due
-refused_appends (end.Refused code line column) old due = refl
-refused_appends (end.Limit which found) old due = refl
-refused_appends end.Memory old due = refl
+pub refused_appends : (Owed : Due → Type 0) (given : TextEnd) (old : Option (List ℕ)) →
+    Appends Owed (status_by_end given) old old
+refused_appends Owed (end.Refused code line column) old = refl
+refused_appends Owed (end.Limit which found) old = refl
+refused_appends Owed end.Memory old = refl
 
 -- the reads behind such a status gave all bytes
 pub refused_reads : {S E : Type 0} (reads : Reads S E) (old new : S) (given : TextEnd) →
@@ -183,18 +227,29 @@ refused_reads reads old new (end.Refused code line column) h = h
 refused_reads reads old new (end.Limit which found) h = inr h
 refused_reads reads old new end.Memory h = inr h
 
--- what is due for a text that spells a document
+-- what is given for the document that a text spells is due for the text
 pub answered_due : (half : ℕ) (asked : Asked) (text : List ℕ) (d : PlainDocument) (place : Place)
-    (P : Due → Type 0) → first_in_text half (command_of asked).takes text ≡ None →
+    (given : Result Answer TextEnd) → first_in_text half (command_of asked).takes text ≡ None →
     spelled half text ≡ Some d → first_place text ≡ place →
-    IsSomeAnd ((command_of asked).due half place d) P → IsSomeAnd (due_in half asked text) P
-answered_due half asked text d place P clean value placed h =
-    let e : due_in half asked text ≡ (command_of asked).due half place d =
-    ap (λ (first : Option (Judgement × Place)).
-    unless_refused (answered first) (due_spelled half asked text)) clean
-    ∙ ap (option_and_then ((command_of asked).due half (first_place text))) value
-    ∙ ap (λ (at : Place). (command_of asked).due half at d) placed in
-    subst (λ (o : Option Due). IsSomeAnd o P) (sym e) h
+    GivesDue ((command_of asked).IsDue half place d) given →
+    GivesDue (IsDueIn half asked text) given
+answered_due half asked text d place given clean value placed h =
+    gives_unless (answered (first_in_text half (command_of asked).takes text))
+    (IsDueSpelled half asked text) given (ap answered clean)
+    (by given (subst (λ (at : Place). GivesDue ((command_of asked).IsDue half at d) given)
+    (sym placed) h))
+  where
+    Spelled : (due : Due) → (command_of asked).IsDue half (first_place text) d due →
+        IsDueSpelled half asked text due
+    Spelled due h = rw value h
+
+    by : (given : Result Answer TextEnd) →
+        GivesDue ((command_of asked).IsDue half (first_place text) d) given →
+        GivesDue (IsDueSpelled half asked text) given
+    by (Ok made) h = Spelled _ h
+    by (Err (end.Refused code line column)) h = Spelled _ h
+    by (Err (end.Limit which found)) h = Spelled _ h
+    by (Err end.Memory) h = tt
 
 pub answered_means : {T E : Type 0} (result : Result T E) (half : ℕ) (asked : Asked)
     (text : List ℕ) (d : PlainDocument) → spelled half text ≡ Some d → IsDocument half d →
@@ -206,28 +261,51 @@ answered_means (Ok x) half asked text d value valid taken means =
 answered_means (Err e) half asked text d value valid taken means = tt
 
 -- the status of an answer that was written, and of one that was not
-pub whole_status : (made : Answer) (given : Status) (due : Due) → made.holds ≡ true →
-    given ≡ (if made.holds then status.Done else status.No) → Gives (Ok made) due →
-    IsStatus due given
-whole_status made given due holds is gives = inl (is ∙ sym (ap status_of gives))
+pub whole_status : (Owed : Due → Type 0) (made : Answer) (given : Status) →
+    given ≡ (if made.holds then status.Done else status.No) → GivesDue Owed (Ok made) →
+    IsStatus Owed given
+whole_status Owed made given is gives = inl (answer made.text.items made.holds, gives, is)
 
-pub part_status : (made : Answer) (due : Due) → Gives (Ok made) due →
-    IsStatus due status.WriteFault
-part_status made due gives =
-    inr (inr (inr (subst IsAnswer (sym gives) tt, refl)))
+pub part_status : (Owed : Due → Type 0) (made : Answer) → GivesDue Owed (Ok made) →
+    IsStatus Owed status.WriteFault
+part_status Owed made gives =
+    inr (inr (inr ((answer made.text.items made.holds, gives, tt), refl)))
 
-pub whole_appends : (made : Answer) (given : Status) (old new : Option (List ℕ)) (due : Due) →
-    made.holds ≡ true → given ≡ (if made.holds then status.Done else status.No) →
-    AppendsWhereTold old new made.text.items → Gives (Ok made) due → Appends given old new due
-whole_appends made given old new due holds is written gives =
-    let done : given ≡ status.Done = is ∙ rw holds refl in
-    rw (done, gives) written
+pub whole_appends : (Owed : Due → Type 0) (made : Answer) (given : Status)
+    (old new : Option (List ℕ)) → given ≡ (if made.holds then status.Done else status.No) →
+    AppendsWhereTold old new made.text.items → GivesDue Owed (Ok made) →
+    Appends Owed given old new
+whole_appends Owed made given old new is written gives =
+    by made.holds given is gives
+  where
+    by : (t : Bool) (given : Status) → given ≡ (if t then status.Done else status.No) →
+        Owed (answer made.text.items t) → Appends Owed given old new
+    by true given e h = rw e (made.text.items, h, written)
+    by false given e h = rw e (made.text.items, h, written)
 
-pub part_appends : (made : Answer) (old new : Option (List ℕ)) (due : Due) →
-    AppendsPrefix old new made.text.items → Gives (Ok made) due →
-    Appends status.WriteFault old new due
-part_appends made old new due written gives = rw gives written
+pub part_appends : (Owed : Due → Type 0) (made : Answer) (old new : Option (List ℕ)) →
+    AppendsPrefix old new made.text.items → GivesDue Owed (Ok made) →
+    Appends Owed status.WriteFault old new
+part_appends Owed made old new written gives = (made.text.items, made.holds, gives, written)
 
-pub tells_same : (left : Option (List ℕ)) → TellsAsBefore left left
-tells_same None = tt
-tells_same (Some l) = tt
+-- `No` comes only where an answer may not hold
+pub may_be_no : (holds may : Bool) (given : Status) → (may ≡ false → holds ≡ true) →
+    given ≡ (if holds then status.Done else status.No) → given ≡ status.No → may ≡ true
+may_be_no holds true given h is denied = refl
+may_be_no holds false given h is denied = absurd (by holds given (h refl) is denied)
+  where
+    by : (t : Bool) (given : Status) → t ≡ true →
+        given ≡ (if t then status.Done else status.No) → given ≡ status.No → ⊥
+    by true given e is denied =
+        let both : status.Done ≡ status.No = sym is ∙ denied in cc both
+    by false given e is denied = cc e
+
+pub refusal_is_not_no : (given : TextEnd) → status_by_end given ≡ status.No → ⊥
+refusal_is_not_no (end.Refused code line column) e = cc e
+refusal_is_not_no (end.Limit which found) e = cc e
+refusal_is_not_no end.Memory e = cc e
+
+-- what holds of a request holds of what was asked for
+pub of_request : (found : Option Request) (request : Request) (P : Request → Type 0) →
+    Some request ≡ found → P request → IfSome found P
+of_request found request P e p = subst (λ (r : Option Request). IfSome r P) e p

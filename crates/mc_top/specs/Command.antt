@@ -1,5 +1,5 @@
 -- What a command is.
-use Rattle.std.specs.Prelude.{ℕ, List, Option}
+use Rattle.std.specs.Prelude.{ℕ, List}
 use Rattle.mc_text.specs.Judged.{Place}
 use Rattle.mc_document.specs.declared.takes.Takes.{Takes}
 use Rattle.mc_document.specs.Documents.{PlainDocument}
@@ -11,5 +11,5 @@ use Rattle.mc_top.specs.Due.{Due}
 pub record Command : Type 1 where
   pub word : List ℕ
   pub takes : Takes
-  pub due : ℕ → Place → PlainDocument → Option Due
+  pub IsDue : ℕ → Place → PlainDocument → Due → Type 0
   pub Means : ℕ → PlainDocument → Type 0

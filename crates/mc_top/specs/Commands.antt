@@ -1,11 +1,12 @@
 -- The commands, and the lists of words that ask for them.
 use Rattle.std.specs.Prelude.{ℕ, List, [], ◌∷◌, Bool, ◌&&◌, ◌||◌, find, map, length, nat_eq, nat_le}
-use Rattle.std.specs.Prelude.{if◌then◌else◌, IsTrue, Option, None, Some, is_some}
+use Rattle.std.specs.Prelude.{true, false, if◌then◌else◌, Option, None, Some}
 use Rattle.std.specs.List.{list_all}
 use Rattle.std.specs.Cmp.Lexicographic.{pointwise}
 use Rattle.mc_top.specs.declared.task.Task.{Task}
 use Rattle.mc_top.specs.declared.task.Task.TheVariants.{Translate, Print, Standard, Shift, Run}
-use Rattle.mc_top.specs.declared.task.Task.TheVariants.{RunBranch}
+use Rattle.mc_top.specs.declared.task.Task.TheVariants.{RunBranch, Graph, Flow, Check}
+use Rattle.mc_top.specs.declared.task.Task.TheVariants.{Make, Extract, Compile}
 use Rattle.mc_top.specs.Command.{Command}
 use Rattle.mc_top.specs.Translate.{translate_command}
 use Rattle.mc_top.specs.Print.{print_command}
@@ -13,6 +14,12 @@ use Rattle.mc_top.specs.Standard.{standard_command}
 use Rattle.mc_top.specs.Shift.{shift_command}
 use Rattle.mc_top.specs.Run.{run_command}
 use Rattle.mc_top.specs.Branch.{branch_command}
+use Rattle.mc_top.specs.Graph.{graph_command}
+use Rattle.mc_top.specs.Flow.{flow_command}
+use Rattle.mc_top.specs.Check.{check_command}
+use Rattle.mc_top.specs.Make.{make_command}
+use Rattle.mc_top.specs.Extract.{extract_command}
+use Rattle.mc_top.specs.Compile.{compile_command}
 
 -- what may be asked for
 pub data Asked : Type 0 where
@@ -22,6 +29,12 @@ pub data Asked : Type 0 where
   shift : Asked
   run : Asked
   run_branch : List Bool → Asked
+  graph : Asked
+  flow : Asked
+  check : Asked
+  make : Asked
+  extract : Asked
+  compile : Asked
 
 abbrev pub command_of : Asked → Command
 command_of translate = translate_command
@@ -30,10 +43,48 @@ command_of standard = standard_command
 command_of shift = shift_command
 command_of run = run_command
 command_of (run_branch outcomes) = branch_command outcomes
+command_of graph = graph_command
+command_of flow = flow_command
+command_of check = check_command
+command_of make = make_command
+command_of extract = extract_command
+command_of compile = compile_command
+
+-- whether `No` may be answered
+abbrev pub may_deny : Asked → Bool
+may_deny translate = false
+may_deny print = false
+may_deny standard = false
+may_deny shift = false
+may_deny run = false
+may_deny (run_branch outcomes) = false
+may_deny graph = false
+may_deny flow = true
+may_deny check = true
+may_deny make = true
+may_deny extract = true
+may_deny compile = false
+
+-- whether the answer is what is chosen of a graph
+abbrev pub chooses : Asked → Bool
+chooses translate = false
+chooses print = false
+chooses standard = false
+chooses shift = false
+chooses run = false
+chooses (run_branch outcomes) = false
+chooses graph = false
+chooses flow = true
+chooses check = false
+chooses make = true
+chooses extract = true
+chooses compile = true
 
 -- what one word asks for
 abbrev pub alone : List Asked
-alone = translate ∷ print ∷ standard ∷ shift ∷ run ∷ []
+alone =
+    translate ∷ print ∷ standard ∷ shift ∷ run ∷ graph ∷ flow ∷ check
+    ∷ make ∷ extract ∷ compile ∷ []
 
 -- whether this is the word of a command
 abbrev pub is_asked : List ℕ → Asked → Bool
@@ -61,10 +112,6 @@ asked_in (word ∷ digits ∷ []) =
     then Some (run_branch (map is_one digits)) else None
 asked_in _ = None
 
--- the words are one of those lists
-abbrev pub IsListed : List (List ℕ) → Type 0
-IsListed words = IsTrue (is_some (asked_in words))
-
 -- what a task of the code asks for
 abbrev pub plain_task : Task → Asked
 plain_task Translate = translate
@@ -73,3 +120,9 @@ plain_task Standard = standard
 plain_task Shift = shift
 plain_task Run = run
 plain_task (RunBranch digits) = run_branch (map is_one digits.now)
+plain_task Graph = graph
+plain_task Flow = flow
+plain_task Check = check
+plain_task Make = make
+plain_task Extract = extract
+plain_task Compile = compile

@@ -36,6 +36,18 @@ Gives (Err end.Memory) due = ⊤
 Gives (Err (end.Refused code line column)) due = due ≡ refusal (end.Refused code line column)
 Gives (Err (end.Limit which found)) due = due ≡ refusal (end.Limit which found)
 
+-- what is given is due; want of memory says nothing
+abbrev pub GivesDue : (Due → Type 0) → Result Answer TextEnd → Type 0
+GivesDue IsDue (Ok given) = IsDue (answer given.text.items given.holds)
+GivesDue IsDue (Err end.Memory) = ⊤
+GivesDue IsDue (Err (end.Refused code line column)) = IsDue (refusal (end.Refused code line column))
+GivesDue IsDue (Err (end.Limit which found)) = IsDue (refusal (end.Limit which found))
+
+-- a refusal that comes first is due; where there is none, what is due is told by what follows
+abbrev pub IsDueUnless : Option TextEnd → (Due → Type 0) → Due → Type 0
+IsDueUnless None IsDue due = IsDue due
+IsDueUnless (Some end) IsDue due = due ≡ refusal end
+
 -- what was asked holds
 abbrev pub Holds : Answer → Type 0
 Holds given = given.holds ≡ true

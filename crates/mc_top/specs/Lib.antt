@@ -9,5 +9,14 @@ pub mod Standard
 pub mod Shift
 pub mod Run
 pub mod Branch
+pub mod GraphSource
+pub mod Graph
+pub mod Flow
+pub mod Check
+pub mod Make
+pub mod Extract
+pub mod Compile
+pub mod Sample
 pub mod Commands
 pub mod Serve
+pub mod Requests

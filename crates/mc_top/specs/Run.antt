@@ -1,5 +1,5 @@
--- `run`: the table of a circuit, or of all branches of a pattern.
-use Rattle.std.specs.Prelude.{◌≡◌, ◌↔◌, ℕ, ◌^◌, ◌*◌, ◌<◌, ◌≤◌, true, false, Bool, List, ℤ, codes}
+-- `run`: the table of a circuit, or of all branches of a pattern or of a graph.
+use Rattle.std.specs.Prelude.{◌≡◌, ◌↔◌, ℕ, ◌^◌, ◌*◌, ◌<◌, ◌≤◌, true, false, Bool, List, ℤ, codes, Some}
 use Rattle.std.specs.Prelude.{Option, MatchOption, IsSomeAnd}
 use Rattle.std.specs.Option.{option_map, option_or}
 use Rattle.mc_model.specs.Bits.{Bits}
@@ -15,9 +15,10 @@ use Rattle.mc_run.specs.Limits.{circuit_limit, all_limit}
 use Rattle.mc_run.specs.Reports.{IsLeastPhase, outcomes_of}
 use Rattle.mc_run_text.specs.Reduced.{reduced}
 use Rattle.mc_run_text.specs.Runs.{circuit_run, all_runs, branch_entries, branch_phase, is_unlike}
-use Rattle.mc_document.specs.Documents.{PlainDocument, circuit_in, pattern_in}
-use Rattle.mc_document.specs.Kinds.{circuits_and_patterns}
+use Rattle.mc_document.specs.Documents.{PlainDocument, circuit_in}
+use Rattle.mc_document.specs.Kinds.{every_kind}
 use Rattle.mc_top.specs.Due.{Due, due_unless, holding, run_limit}
+use Rattle.mc_top.specs.Source.{run_source_in}
 use Rattle.mc_top.specs.Command.{Command}
 
 abbrev pub due_table : ℕ → Circuit → Due
@@ -29,7 +30,7 @@ due_branches half p = due_unless (run_limit (all_limit p)) (holding (all_runs ha
 abbrev pub due_run : ℕ → PlainDocument → Option Due
 due_run half d =
     option_or (option_map (due_table half) (circuit_in d))
-    (option_map (due_branches half) (pattern_in d))
+    (option_map (due_branches half) (run_source_in d))
 
 -- what is printed of an entry over a power of the root of two has its value, and no element over a
 -- lesser power has
@@ -70,12 +71,12 @@ pub record MeansBranches (half : ℕ) (p : Pattern) : Type 0 where
 
 abbrev pub MeansRun : ℕ → PlainDocument → Type 0
 MeansRun half d =
-    MatchOption (circuit_in d) (IsSomeAnd (pattern_in d) (MeansBranches half)) (MeansTable half)
+    MatchOption (circuit_in d) (IsSomeAnd (run_source_in d) (MeansBranches half)) (MeansTable half)
 
 abbrev pub run_command : Command
 run_command = record {
   word = codes "run";
-  takes = circuits_and_patterns;
-  due = λ half place d. due_run half d;
+  takes = every_kind;
+  IsDue = λ half place d due. due_run half d ≡ Some due;
   Means = MeansRun;
 }

@@ -1,8 +1,6 @@
 -- What the bytes that come in call for.
 use Rattle.std.specs.Prelude.{◌≡◌, ◌≢◌, ◌⊎◌, ℕ, suc, ◌<◌, List, length, nat_lt, if◌then◌else◌}
-use Rattle.std.specs.Prelude.{Option}
-use Rattle.std.specs.Prelude.{None, Some, ⊤, Result, Ok, Err, IsSomeAnd}
-use Rattle.std.specs.Option.{option_and_then}
+use Rattle.std.specs.Prelude.{Bool, true, false, Option, None, Some, ⊤, Result, Ok, Err, IsSomeAnd}
 use Rattle.mc_io.specs.Calls.{Reads, ReadsOn, ReadsOnThen}
 use Rattle.mc_io.specs.Told.{AppendsWhereTold, AppendsPrefix}
 use Rattle.mc_io.specs.Faults.{Rose}
@@ -17,7 +15,7 @@ use Rattle.mc_document.specs.Sections.{first_in_text, spelled}
 use Rattle.mc_top.specs.declared.status.Status.{Status}
 use Rattle.mc_top.specs.declared.status.Status.TheVariants as status
 use Rattle.mc_top.specs.Commands.{Asked, command_of}
-use Rattle.mc_top.specs.Due.{Due, answer, refusal}
+use Rattle.mc_top.specs.Due.{Due, answer, refusal, IsDueUnless}
 use Rattle.mc_top.specs.Ends.{status_by_end}
 
 -- the steps of half a turn, by which the angles of a text are read
@@ -25,25 +23,24 @@ abbrev pub half_of : List ℕ → ℕ
 half_of text = 4
 
 -- what is due for the document that a text spells
-abbrev pub due_spelled : ℕ → Asked → List ℕ → Option Due
-due_spelled half asked text =
-    option_and_then ((command_of asked).due half (first_place text)) (spelled half text)
-
-abbrev pub unless_refused : Option TextEnd → Option Due → Option Due
-unless_refused None due = due
-unless_refused (Some end) due = Some (refusal end)
+abbrev pub IsDueSpelled : ℕ → Asked → List ℕ → Due → Type 0
+IsDueSpelled half asked text due =
+    IsSomeAnd (spelled half text) (λ d. (command_of asked).IsDue half (first_place text) d due)
 
 -- by the answer to the first fault or limit of the text
-abbrev pub due_in : ℕ → Asked → List ℕ → Option Due
-due_in half asked text =
-    unless_refused (answered (first_in_text half (command_of asked).takes text))
-    (due_spelled half asked text)
+abbrev pub IsDueIn : ℕ → Asked → List ℕ → Due → Type 0
+IsDueIn half asked text =
+    IsDueUnless (answered (first_in_text half (command_of asked).takes text))
+    (IsDueSpelled half asked text)
 
--- what is due for a text: there is always something, by `something_is_due`
-abbrev pub due_of : Asked → List ℕ → Option Due
-due_of asked input =
-    if nat_lt most_bytes (length input) then Some (refusal (end.Limit 1 (suc most_bytes)))
-    else due_in (half_of input) asked input
+-- more bytes than a text may have
+abbrev pub too_long : List ℕ → Option TextEnd
+too_long input =
+    if nat_lt most_bytes (length input) then Some (end.Limit 1 (suc most_bytes)) else None
+
+-- what is due for the bytes that come in
+abbrev pub IsDue : Asked → List ℕ → Due → Type 0
+IsDue asked input = IsDueUnless (too_long input) (IsDueIn (half_of input) asked input)
 
 -- a document is valid and of a kind that is taken, and the answer means this for it
 pub record IsAnsweredFor (half : ℕ) (asked : Asked) (d : PlainDocument) : Type 0 where
@@ -68,12 +65,12 @@ abbrev pub IsAnswer : Due → Type 0
 IsAnswer (answer text holds) = ⊤
 IsAnswer (refusal end) = ⊥
 
--- the status is the one that is due, or a failure that no input calls for
-abbrev pub IsStatus : Due → Status → Type 0
-IsStatus due given =
-    (given ≡ status_of due)
+-- the status is that of what is due, or a failure that no input calls for
+abbrev pub IsStatus : (Due → Type 0) → Status → Type 0
+IsStatus Owed given =
+    ((due : Due) × Owed due × (given ≡ status_of due))
     ⊎ ((given ≡ status.ReadFault) ⊎ ((given ≡ status.Memory)
-    ⊎ (IsAnswer due × (given ≡ status.WriteFault))))
+    ⊎ (((due : Due) × Owed due × IsAnswer due) × (given ≡ status.WriteFault))))
 
 -- the whole answer was written
 abbrev pub IsWhole : Status → Type 0
@@ -88,14 +85,14 @@ abbrev pub IsUnwritten : Status → Type 0
 IsUnwritten given = (given ≢ status.Done) × (given ≢ status.No) × (given ≢ status.WriteFault)
 
 -- what was appended to the sink: the whole answer that is due, a part of it, or nothing
-abbrev pub Appends : Status → Option (List ℕ) → Option (List ℕ) → Due → Type 0
-Appends status.Done old new (answer text holds) = AppendsWhereTold old new text
-Appends status.Done old new (refusal end) = ⊥
-Appends status.No old new (answer text holds) = AppendsWhereTold old new text
-Appends status.No old new (refusal end) = ⊥
-Appends status.WriteFault old new (answer text holds) = AppendsPrefix old new text
-Appends status.WriteFault old new (refusal end) = ⊥
-Appends _ old new due = new ≡ old
+abbrev pub Appends : (Due → Type 0) → Status → Option (List ℕ) → Option (List ℕ) → Type 0
+Appends Owed status.Done old new =
+    (text : List ℕ) × Owed (answer text true) × AppendsWhereTold old new text
+Appends Owed status.No old new =
+    (text : List ℕ) × Owed (answer text false) × AppendsWhereTold old new text
+Appends Owed status.WriteFault old new =
+    (text : List ℕ) × (holds : Bool) × Owed (answer text holds) × AppendsPrefix old new text
+Appends Owed _ old new = new ≡ old
 
 -- the reads that were made: none; or reads that gave bytes, up to one that gave none, or one that
 -- failed, or until there were too many bytes or no memory

@@ -1,5 +1,5 @@
 -- `shift`: the shifted form of a pattern's standard form, and the change of outcomes.
-use Rattle.std.specs.Prelude.{ℕ, List, ◌++◌, codes, Option, IsSomeAnd}
+use Rattle.std.specs.Prelude.{ℕ, List, ◌++◌, codes, Option, IsSomeAnd, ◌≡◌, Some}
 use Rattle.mc_model.specs.Bits.{Bits}
 use Rattle.mc_model.specs.Ring.{ring}
 use Rattle.mc_model.specs.Pattern.{Pattern}
@@ -17,7 +17,8 @@ use Rattle.mc_top.specs.Command.{Command}
 
 -- the text of the shifted form of a standard form, with the change of outcomes behind it
 abbrev pub shifted_text : Pattern → List ℕ
-shifted_text p = pattern_text (shifted_form p) ++ change_text (shifted_form p) (change_of p.commands)
+shifted_text p =
+    pattern_text (shifted_form p) ++ change_text (shifted_form p) (change_of p.commands)
 
 abbrev pub due_shift : ℕ → PlainDocument → Option Due
 due_shift half d = due_from half d (λ p. shifted_text (standard_form p))
@@ -37,6 +38,6 @@ abbrev pub shift_command : Command
 shift_command = record {
   word = codes "shift";
   takes = circuits_and_patterns;
-  due = λ half place d. due_shift half d;
+  IsDue = λ half place d due. due_shift half d ≡ Some due;
   Means = MeansShift;
 }

@@ -4,10 +4,11 @@ use Rattle.std.specs.Option.{option_and_then, option_map, option_or}
 use Rattle.mc_lex.specs.declared.end.TextEnd.{TextEnd}
 use Rattle.mc_lex.specs.declared.end.TextEnd.TheVariants as end
 use Rattle.mc_model.specs.Pattern.{Circuit, Pattern}
+use Rattle.mc_model.specs.Graph.{zero_pattern}
 use Rattle.mc_model.specs.Translation.{translation}
 use Rattle.mc_model.specs.Translation.{qubit_count}
 use Rattle.mc_model.specs.Limits.{most_qubits}
-use Rattle.mc_document.specs.Documents.{PlainDocument, circuit_in, pattern_in}
+use Rattle.mc_document.specs.Documents.{PlainDocument, circuit_in, graph_in, pattern_in}
 use Rattle.mc_top.specs.Due.{Due, due_unless, holding}
 
 -- a translation has at most 256 qubits
@@ -26,3 +27,8 @@ source_limit d = option_and_then translation_limit (circuit_in d)
 abbrev pub due_from : ℕ → PlainDocument → (Pattern → List ℕ) → Option Due
 due_from half d text_for =
     option_map (λ p. due_unless (source_limit d) (holding (text_for p))) (source_in half d)
+
+-- the pattern that is run for a document that is no circuit: a graph counts as its pattern without
+-- a flow
+abbrev pub run_source_in : PlainDocument → Option Pattern
+run_source_in d = option_or (pattern_in d) (option_map zero_pattern (graph_in d))

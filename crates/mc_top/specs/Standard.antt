@@ -1,5 +1,5 @@
 -- `standard`: the standard form of a pattern.
-use Rattle.std.specs.Prelude.{ℕ, codes, Option, IsSomeAnd}
+use Rattle.std.specs.Prelude.{ℕ, codes, Option, IsSomeAnd, ◌≡◌, Some}
 use Rattle.mc_model.specs.Bits.{Bits}
 use Rattle.mc_model.specs.Ring.{ring}
 use Rattle.mc_model.specs.Pattern.{Pattern}
@@ -26,6 +26,6 @@ abbrev pub standard_command : Command
 standard_command = record {
   word = codes "standard";
   takes = circuits_and_patterns;
-  due = λ half place d. due_standard half d;
+  IsDue = λ half place d due. due_standard half d ≡ Some due;
   Means = MeansStandard;
 }

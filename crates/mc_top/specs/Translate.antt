@@ -1,5 +1,5 @@
 -- `translate`: the pattern of a circuit.
-use Rattle.std.specs.Prelude.{ℕ, codes, Option, IsSomeAnd}
+use Rattle.std.specs.Prelude.{ℕ, codes, Option, IsSomeAnd, ◌≡◌, Some}
 use Rattle.std.specs.Option.{option_map}
 use Rattle.mc_model.specs.Ring.{ring}
 use Rattle.mc_model.specs.Pattern.{Circuit}
@@ -22,12 +22,13 @@ due_translate half d = option_map (due_translation half) (circuit_in d)
 
 -- at every outcome list the branch map of the translation is the table of the circuit
 abbrev pub MeansTranslate : ℕ → PlainDocument → Type 0
-MeansTranslate half d = IsSomeAnd (circuit_in d) (λ c. HasTableAtEachBranch (ring half) c (translation half c))
+MeansTranslate half d =
+    IsSomeAnd (circuit_in d) (λ c. HasTableAtEachBranch (ring half) c (translation half c))
 
 abbrev pub translate_command : Command
 translate_command = record {
   word = codes "translate";
   takes = only_circuits;
-  due = λ half place d. due_translate half d;
+  IsDue = λ half place d due. due_translate half d ≡ Some due;
   Means = MeansTranslate;
 }

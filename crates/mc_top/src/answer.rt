@@ -1,6 +1,6 @@
 //! Answers.
 
-ghost use Rattle.std.specs.Prelude.{◌≡◌, ℕ, List, Ok, Err, None, Option, Some, IfOk};
+ghost use Rattle.std.specs.Prelude.{◌≡◌, ℕ, List, Ok, Err, None, Option, Some, IfOk, IfErr};
 ghost use Rattle.mc_top.specs.Due.{Gives, Holds, due_unless, holding, run_limit};
 
 use mc_lex::TextEnd;
@@ -22,6 +22,18 @@ pub(crate) fn told(made: Result<Vec<u8>, Memory>) -> Result<Answer, TextEnd>
 {
     match made {
         Ok(text) => Ok(Answer { text, holds: true }),
+        Err(Memory) => Err(TextEnd::Memory),
+    }
+}
+
+/// The answer with a text, and whether what was asked holds; or want of memory.
+pub(crate) fn judged(made: Result<Vec<u8>, Memory>, holds: bool) -> Result<Answer, TextEnd>
+    ensures ok { IfOk result (λ answer. made ≡ Ok answer.text) }
+    ensures holds { IfOk result (λ answer. answer.holds ≡ holds) }
+    ensures err { IfErr result (λ end. end ≡ TextEnd.Memory) }
+{
+    match made {
+        Ok(text) => Ok(Answer { text, holds }),
         Err(Memory) => Err(TextEnd::Memory),
     }
 }

@@ -1,18 +1,23 @@
-//! `run` with outcomes: the table of one branch of a pattern.
+//! `run` with outcomes: the table of one branch of a pattern or of a graph.
 
 ghost use Rattle.std.specs.Prelude.{◌≡◌, OnOk, IfOk, IsSomeAnd, IsTrue, length, map};
+ghost use Rattle.mc_model.specs.Bits.{Bits};
+ghost use Rattle.mc_model.specs.Graph.{zero_pattern as bare_pattern};
+ghost use Rattle.mc_model.specs.Pattern.{Pattern as PlainPattern};
 ghost use Rattle.mc_model.specs.Steps.{is_permitted};
 ghost use Rattle.mc_pattern.specs.Patterns.{measured_count};
 ghost use Rattle.mc_run.specs.Limits.{branch_limit};
 ghost use Rattle.mc_run_text.specs.Runs.{branch_run};
 ghost use Rattle.mc_document.specs.Documents.{plain_document};
-ghost use Rattle.mc_document.specs.Kinds.{IsTaken, only_patterns};
+ghost use Rattle.mc_document.specs.Kinds.{IsTaken, patterns_and_graphs};
 ghost use Rattle.mc_top.specs.Branch.{MeansOutcomes, due_branch, due_outcomes};
 ghost use Rattle.mc_top.specs.Commands.{is_one};
+ghost use Rattle.mc_top.specs.Run.{MeansBranch};
 ghost use Rattle.mc_top.specs.Due.{Gives, Holds, due_unless, holding, run_limit};
 
 use crate::answer::{Answer, ran};
-use mc_document::{Document, taken_documents_are_seen};
+use mc_document::Document;
+use mc_graph::{OpenGraph, zero_pattern};
 use mc_lex::TextEnd;
 use mc_model::Memory;
 use mc_pattern::Pattern;
@@ -20,8 +25,8 @@ use mc_run_text::{amplitudes_are_reduced, run_branch_text};
 use mc_text::Fault;
 use std::alloc::Global;
 
-/// The table of the branch of a pattern with these outcomes, a digit each. Where they are not as many as the measured
-/// qubits, that is a fault at the place of the text's first word.
+/// The table of the branch of a pattern with these outcomes, a digit each; a graph counts as its pattern without a flow.
+/// Where they are not as many as the measured qubits, that is a fault at the place of the text's first word.
 pub(crate) fn answer_branch<const H: usize>(
     alloc: Global,
     place: (u32, u32),
@@ -29,15 +34,42 @@ pub(crate) fn answer_branch<const H: usize>(
     document: Document<H>,
 ) -> Result<Answer, TextEnd>
     requires permitted { IsTrue (is_permitted H) }
-    requires taken { IsTaken only_patterns (plain_document document) }
+    requires taken { IsTaken patterns_and_graphs (plain_document document) }
     ensures due { IsSomeAnd (due_branch H place (map is_one digits.now) (plain_document document.entry)) (Gives result) }
     ensures meaning { OnOk result (MeansOutcomes H (map is_one digits.now) (plain_document document.entry)) }
     ensures holds { IfOk result Holds }
 {
-    taken_documents_are_seen();
+    branches_are_well_printed::<H>();
+    match document {
+        Document::Pattern(pattern, _) => answer_outcomes(alloc, place, digits, &pattern),
+        Document::Graph(graph, _) => answer_graph_outcomes(alloc, place, digits, &graph),
+        Document::Circuit(_) => unreachable!(),
+    }
+}
+
+/// Whatever the branch, its amplitudes are printed with their values, over the least power of root two.
+fn branches_are_well_printed<const H: usize>()
+    requires { IsTrue (is_permitted H) }
+    ensures { (p : PlainPattern) (o : Bits) → MeansBranch H p o }
+{
     amplitudes_are_reduced::<H>();
-    let pattern = document.into_pattern();
-    answer_outcomes(alloc, place, digits, &pattern)
+}
+
+/// The table of the branch of a graph's pattern without a flow.
+fn answer_graph_outcomes<const H: usize>(
+    alloc: Global,
+    place: (u32, u32),
+    digits: &[u8],
+    graph: &OpenGraph<H>,
+) -> Result<Answer, TextEnd>
+    requires permitted { IsTrue (is_permitted H) }
+    ensures due { Gives result (due_outcomes H place (map is_one digits.now) (bare_pattern graph.now)) }
+    ensures holds { IfOk result Holds }
+{
+    match zero_pattern(alloc, graph) {
+        Ok(pattern) => answer_outcomes(alloc, place, digits, &pattern),
+        Err(_) => Err(TextEnd::Memory),
+    }
 }
 
 fn answer_outcomes<const H: usize>(

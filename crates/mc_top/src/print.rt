@@ -23,7 +23,7 @@ pub(crate) fn answer_print<const H: usize>(
     requires permitted { IsTrue (is_permitted H) }
     requires valid { IsDocument H (plain_document document) }
     requires taken { IsTaken every_kind (plain_document document) }
-    ensures due { IsSomeAnd (due_print (plain_document document.entry)) (Gives result) }
+    ensures due { IsSomeAnd (due_print H (plain_document document.entry)) (Gives result) }
     ensures meaning { OnOk result (IsReadBack H (plain_document document.entry)) }
     ensures holds { IfOk result Holds }
 {

@@ -52,7 +52,7 @@ fn translated(rt: &impl Abort, alloc: Global, text: &str) -> Result<Pattern<4>, 
     let document = read_document::<4>(alloc, text, Takes::circuits())?;
     match document {
         Document::Circuit(circuit) => Ok(translate(alloc, &circuit)?),
-        Document::Pattern(_, _) => panic!(rt; "a pattern is no circuit"),
+        _ => panic!(rt; "a document that is no circuit"),
     }
 }
 

@@ -56,14 +56,10 @@ fn runs_the_toffoli_network(rt: HostRuntime) -> Result<(), Fail> {
 
 /// The pattern that a text spells.
 fn pattern_of(rt: &impl Abort, alloc: Global, text: &str) -> Option<Pattern<4>> {
-    let takes = Takes {
-        circuit: false,
-        pattern: true,
-    };
     if text.len() > 8_388_608 {
         return None;
     }
-    match read_document(alloc, text.as_bytes(), takes) {
+    match read_document(alloc, text.as_bytes(), Takes::patterns()) {
         Ok(Document::Pattern(pattern, _)) => Some(pattern),
         _ => None,
     }

@@ -1,6 +1,6 @@
 //! The commands, the words that ask for them, and their answers.
 
-ghost use Rattle.std.specs.Prelude.{◌≡◌, [], ◌∷◌, map, IfOk, IsSomeAnd, IsTrue, OnOk};
+ghost use Rattle.std.specs.Prelude.{◌≡◌, [], ◌∷◌, false, map, IfOk, IsTrue, OnOk};
 ghost use Rattle.std.specs.List.{list_all};
 ghost use Rattle.std.specs.Option.{option_map};
 ghost use Rattle.std.specs.String.{string_bytes};
@@ -8,17 +8,23 @@ ghost use Rattle.mc_model.specs.Steps.{is_permitted};
 ghost use Rattle.mc_document.specs.Documents.{IsDocument, plain_document};
 ghost use Rattle.mc_document.specs.Kinds.{IsTaken};
 ghost use Rattle.mc_top.specs.Commands.{are_outcomes, asked_in, command_of, is_count, is_outcome};
-ghost use Rattle.mc_top.specs.Commands.{plain_task};
-ghost use Rattle.mc_top.specs.Due.{Gives, Holds};
+ghost use Rattle.mc_top.specs.Commands.{may_deny, plain_task};
+ghost use Rattle.mc_top.specs.Due.{GivesDue, Holds};
 
 use crate::answer::Answer;
 use crate::branch::answer_branch;
+use crate::check::answer_check;
+use crate::compile::answer_compile;
+use crate::extract::answer_extract;
+use crate::flow::answer_flow;
+use crate::graph::answer_graph;
+use crate::make::answer_make;
 use crate::print::answer_print;
 use crate::run::answer_run;
 use crate::shift::answer_shift;
 use crate::standard::answer_standard;
 use crate::translate::answer_translate;
-use crate::{print, run, shift, standard, translate};
+use crate::{check, compile, extract, flow, graph, make, print, run, shift, standard, translate};
 use mc_document::{Placed, Takes};
 use mc_lex::TextEnd;
 use std::alloc::Global;
@@ -34,10 +40,22 @@ pub enum Task<'w> {
     Standard,
     /// The shifted form of a pattern, and the change of outcomes.
     Shift,
-    /// The table of a circuit, or of all branches of a pattern.
+    /// The table of a circuit, or of all branches of a pattern or of a graph.
     Run,
     /// The table of the branch with these outcomes, a digit each, in measuring order.
     RunBranch(&'w [u8]),
+    /// The open graph of a pattern.
+    Graph,
+    /// A graph, and its chosen flow or chosen refuter.
+    Flow,
+    /// Whether a graph's certificate holds.
+    Check,
+    /// The pattern that is made from the chosen flow of a graph.
+    Make,
+    /// The circuit that is extracted by the chosen causal flow of a graph.
+    Extract,
+    /// The pattern that a circuit is compiled into.
+    Compile,
 }
 
 impl<'w> Task<'w> {
@@ -46,10 +64,11 @@ impl<'w> Task<'w> {
         ensures { result ≡ (command_of (plain_task self.now)).takes }
     {
         match self {
-            Task::Translate => Takes::circuits(),
-            Task::Print => Takes::all(),
-            Task::Standard | Task::Shift | Task::Run => Takes::circuits_and_patterns(),
-            Task::RunBranch(_) => Takes::patterns(),
+            Task::Translate | Task::Compile => Takes::circuits(),
+            Task::Print | Task::Run | Task::Flow | Task::Make | Task::Extract => Takes::all(),
+            Task::Standard | Task::Shift | Task::Graph => Takes::circuits_and_patterns(),
+            Task::RunBranch(_) => Takes::patterns_and_graphs(),
+            Task::Check => Takes::certified_graphs(),
         }
     }
 }
@@ -63,10 +82,10 @@ pub(crate) fn answer_document<const H: usize>(
     requires permitted { IsTrue (is_permitted H) }
     requires valid { IsDocument H (plain_document read.document) }
     requires taken { IsTaken (command_of (plain_task task)).takes (plain_document read.document) }
-    ensures due { IsSomeAnd ((command_of (plain_task task.entry)).due H (read.entry.line, read.entry.column)
-        (plain_document read.entry.document)) (Gives result) }
+    ensures due { GivesDue ((command_of (plain_task task.entry)).IsDue H (read.entry.line, read.entry.column)
+        (plain_document read.entry.document)) result }
     ensures meaning { OnOk result ((command_of (plain_task task.entry)).Means H (plain_document read.entry.document)) }
-    ensures holds { IfOk result Holds }
+    ensures holds { may_deny (plain_task task.entry) ≡ false → IfOk result Holds }
 {
     let place = (read.line, read.column);
     match task {
@@ -76,6 +95,12 @@ pub(crate) fn answer_document<const H: usize>(
         Task::Shift => answer_shift(alloc, read.document),
         Task::Run => answer_run(alloc, read.document),
         Task::RunBranch(digits) => answer_branch(alloc, place, digits, read.document),
+        Task::Graph => answer_graph(alloc, read.document),
+        Task::Flow => answer_flow(alloc, read.document),
+        Task::Check => answer_check(alloc, read.document),
+        Task::Make => answer_make(alloc, read.document),
+        Task::Extract => answer_extract(alloc, read.document),
+        Task::Compile => answer_compile(alloc, read.document),
     }
 }
 
@@ -97,6 +122,24 @@ fn task_of_word<'w>(word: &[u8]) -> Option<Task<'w>>
     }
     if word == run::WORD {
         return Some(Task::Run);
+    }
+    if word == graph::WORD {
+        return Some(Task::Graph);
+    }
+    if word == flow::WORD {
+        return Some(Task::Flow);
+    }
+    if word == check::WORD {
+        return Some(Task::Check);
+    }
+    if word == make::WORD {
+        return Some(Task::Make);
+    }
+    if word == extract::WORD {
+        return Some(Task::Extract);
+    }
+    if word == compile::WORD {
+        return Some(Task::Compile);
     }
     None
 }

@@ -1,17 +1,20 @@
 use Rattle.std.proofs.Common.{map}
-use Rattle.mc_model.specs.Amplitude.{branch_map, pattern_scale, placed}
-use Rattle.mc_model.specs.Ring.{ring}
+use Rattle.mc_model.specs.Amplitude.{placed}
+use Rattle.mc_model.specs.Graph.{zero_pattern}
 use Rattle.mc_model.specs.Pattern.{measured_order}
 use Rattle.mc_top.specs.Commands.{is_one}
-use Rattle.mc_top.proofs.AllBranches.{well_printed}
 use Rattle.mc_top.proofs.ShiftedForms.{on_ok}
 use Rattle.mc_top.proofs.branch.answer_branch.Goals as goal
 
-pub returns-clause-meaning : goal.returns-clause-meaning
-returns-clause-meaning g c =
-    let law = c.amplitudes_are_reduced.ensures in
-    let p = c.into_pattern-pattern.result in
-    let o = placed (measured_order p.commands) (map is_one c.args.digits.now) in
-    on_ok c.answer_outcomes.result _ (rw c.into_pattern-pattern.ensures
-    (λ y b. well_printed g.row.H law.value law.least (branch_map (ring g.row.H) p o y b)
-    (pattern_scale p)))
+pub returns-in-Pattern-clause-meaning : goal.returns-in-Pattern-clause-meaning
+returns-in-Pattern-clause-meaning g c =
+    rw c.in-Pattern.is (on_ok c.answer_outcomes.result _
+    (c.branches_are_well_printed.ensures c.in-Pattern.pattern
+    (placed (measured_order c.in-Pattern.pattern.commands) (map is_one c.args.digits.now))))
+
+pub returns-in-Graph-clause-meaning : goal.returns-in-Graph-clause-meaning
+returns-in-Graph-clause-meaning g c =
+    let p = zero_pattern c.in-Graph.graph in
+    rw c.in-Graph.is (on_ok c.answer_graph_outcomes.result _
+    (c.branches_are_well_printed.ensures p
+    (placed (measured_order p.commands) (map is_one c.args.digits.now))))

@@ -6,7 +6,6 @@ returns-clause-for_text c =
     let seen : AreSeen =
     record {
       circuit = c.taken_documents_are_seen.ensures.circuit;
-      pattern = c.taken_documents_are_seen.ensures.pattern;
       other = c.taken_documents_are_seen.ensures.other;
     } in
     of_due seen c.clean_texts_spell_documents.ensures
@@ -16,7 +15,6 @@ returns-clause-in_step c =
     let seen : AreSeen =
     record {
       circuit = c.taken_documents_are_seen.ensures.circuit;
-      pattern = c.taken_documents_are_seen.ensures.pattern;
       other = c.taken_documents_are_seen.ensures.other;
     } in
     in_due seen c.clean_texts_spell_documents.ensures

@@ -7,6 +7,7 @@ pub returns-clause-meaning : goal.returns-clause-meaning
 returns-clause-meaning g c =
     let d = plain_document c.args.document in
     on_ok c.told.result _ (record {
-      clean = c.canonical_texts_are_read.ensures.clean every_kind d c.requires.valid c.requires.taken;
+      clean = c.canonical_texts_are_read.ensures.clean every_kind d c.requires.valid
+          c.requires.taken;
       same = c.canonical_texts_are_read.ensures.same d c.requires.valid;
     })

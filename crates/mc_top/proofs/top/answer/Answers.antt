@@ -5,7 +5,6 @@ use Rattle.mc_document.specs.Documents.{plain_document}
 use Rattle.mc_document.specs.Kinds.{IsTaken}
 use Rattle.mc_document.specs.Sections.{first_in_text}
 use Rattle.mc_top.specs.Commands.{command_of, plain_task}
-use Rattle.mc_top.specs.Due.{Gives}
 use Rattle.mc_top.proofs.Serving.{answered_due, answered_means, end_gives}
 use Rattle.mc_top.proofs.top.answer.Goals as goal
 
@@ -15,7 +14,7 @@ returns-in-Ok-clause-due g c =
     let clean = subst (λ (t : Takes). first_in_text g.row.H t c.args.text.now ≡ None) c.takes.ensures
     c.in-Ok.ensures.clean in
     answered_due g.row.H asked c.args.text.now (plain_document c.in-Ok.read.document) _
-    (Gives c.answer_document.result) clean c.in-Ok.ensures.value c.in-Ok.ensures.place
+    c.answer_document.result clean c.in-Ok.ensures.value c.in-Ok.ensures.place
     c.answer_document.ensures.due
 
 pub returns-in-Ok-clause-meaning : goal.returns-in-Ok-clause-meaning
@@ -33,4 +32,3 @@ returns-in-Err-clause-due g c =
     (λ (t : Takes). IsEnd c.in-Err.end (first_in_text g.row.H t c.args.text.now)) c.takes.ensures
     c.in-Err.ensures.err in
     end_gives c.in-Err.end (first_in_text g.row.H (command_of asked).takes c.args.text.now) _ told
-    (c.something_is_due.ensures.in_step g.row.H asked c.args.text.now)
