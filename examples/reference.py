@@ -2,14 +2,17 @@
 """Works out what mcalc prints for an example, apart from the program and by other means.
 
 The standard form is taken by its closed sums over the places of the list, the shifted form by solving for the old
-outcomes in terms of the new ones, and amplitudes by sums over all paths with exact whole coordinates. Nothing here is
-proved and nothing is shared with the program: it is a second opinion on a few documents.
+outcomes in terms of the new ones, and amplitudes by sums over all paths with exact whole coordinates; graphs and flows
+are in `reference_graphs.py`. Nothing here is proved and nothing is shared with the program: it is a second opinion on a
+few documents.
 
 `known` prints the table of a gate from its formula alone, without its circuit.
 
 usage: examples/reference.py COMMAND < DOCUMENT, or examples/reference.py known NAME
 """
 import sys
+
+import reference_graphs as graphs
 
 HALF = 4
 
@@ -29,9 +32,11 @@ def fresh(names):
 
 
 def read(text):
-    """A circuit or a pattern as a dictionary; qubits and wires are numbers."""
+    """A document as a dictionary; qubits, wires and vertices are numbers."""
     lines = lines_of(text)
     kind, body = lines[0][0], lines[1:]
+    if kind == "graph":
+        return graphs.read_graph(body)
     names, items, inputs, out = [], [], 0, []
     number = names.index
     for word, *rest in body:
@@ -322,28 +327,74 @@ def print_known(name):
     return "\n".join(lines + ["end", ""])
 
 
+# ---- commands
+
+def text_of(lines):
+    return "".join(" ".join(line) + "\n" for line in lines)
+
+
+def print_graph(graph):
+    return text_of(graphs.graph_lines(graph, HALF))
+
+
+def print_document(document):
+    return {"circuit": print_circuit, "pattern": print_pattern, "graph": print_graph}[document["kind"]](document)
+
+
+def print_shift(source):
+    shifted, change = shift(standard(source))
+    return print_pattern(shifted) + print_change(shifted, change)
+
+
+def with_flow(graph, answer):
+    """The answer made of the chosen flow, or the graph with its chosen refuter."""
+    flow, rest = graphs.chosen_flow(graph)
+    if rest:
+        return print_graph(graph) + text_of(graphs.refuter_lines(graph["names"], graphs.refuter_of(graph, rest)))
+    return answer(flow)
+
+
+def print_flow(graph):
+    return with_flow(graph, lambda flow: print_graph(graph) + text_of(graphs.flow_lines(graph["names"], flow)))
+
+
+def print_made(graph):
+    return with_flow(graph, lambda flow: print_pattern(graphs.flow_pattern(graph, flow)))
+
+
+def print_compiled(graph):
+    return with_flow(graph, lambda flow: print_pattern(shift(standard(graphs.flow_pattern(graph, flow)))[0]))
+
+
+def print_extracted(graph):
+    flow, stuck = graphs.causal_flow(graph)
+    if stuck:
+        return print_graph(graph) + text_of(graphs.stuck_lines(graph["names"], stuck))
+    return print_circuit(graphs.extracted(graph, flow, HALF))
+
+
+OF_PATTERNS = {"translate": print_pattern, "standard": lambda p: print_pattern(standard(p)), "shift": print_shift}
+OF_GRAPHS = {"graph": print_graph, "flow": print_flow, "make": print_made, "compile": print_compiled,
+             "extract": print_extracted}
+
+
+def answer(command, document):
+    if command == "print":
+        return print_document(document)
+    if command == "run":
+        return print_run(graphs.zero_pattern(document) if document["kind"] == "graph" else document)
+    source = translate(document) if document["kind"] == "circuit" else document
+    if command in OF_PATTERNS:
+        return OF_PATTERNS[command](source)
+    graph = source if source["kind"] == "graph" else graphs.graph_of(source, HALF)
+    return OF_GRAPHS[command](graph)
+
+
 def main():
     if sys.argv[1] == "known":
         sys.stdout.write(print_known(sys.argv[2]))
-        return
-    command, document = sys.argv[1], read(sys.stdin.read())
-    is_circuit = document["kind"] == "circuit"
-    if command == "print":
-        sys.stdout.write(print_circuit(document) if is_circuit else print_pattern(document))
-        return
-    if command == "run":
-        sys.stdout.write(print_run(document))
-        return
-    source = translate(document) if is_circuit else document
-    if command == "translate":
-        sys.stdout.write(print_pattern(source))
-    elif command == "standard":
-        sys.stdout.write(print_pattern(standard(source)))
-    elif command == "shift":
-        shifted, change = shift(standard(source))
-        sys.stdout.write(print_pattern(shifted) + print_change(shifted, change))
     else:
-        sys.exit(f"{command}: not a command of the reference")
+        sys.stdout.write(answer(sys.argv[1], read(sys.stdin.read())))
 
 
 main()
