@@ -70,7 +70,7 @@ fn print_made<const H: usize>(
     requires { IsChosenFlowOf graph.now flow.now }
     ensures { IfOk result (λ text. text.items
         ≡ text_with_constants
-            (flow_pattern graph.now (sets_in flow.now.rows) (layer_in flow.now.rows))) }
+        (flow_pattern graph.now (sets_in flow.now.rows) (layer_in flow.now.rows))) }
 {
     let pattern = make_pattern(alloc, graph, flow)?;
     print_with_constants(alloc, &pattern)
