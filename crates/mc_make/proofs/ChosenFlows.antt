@@ -20,7 +20,7 @@ use Rattle.mc_model.specs.StandardForm.{first_sum, second_sum, standard_form}
 use Rattle.mc_model.specs.Shift.{HasNoSecondSignals}
 use Rattle.mc_model.specs.Graph.{Edge, OpenGraph, size, is_output, odd_neighbourhood, IsOpenGraph}
 use Rattle.mc_model.specs.Graph.{entanglings, graph_state, bare_measurement, fixed_corrections}
-use Rattle.mc_model.specs.Flow.{CorrectsAt, IsFlow, depth_of}
+use Rattle.mc_model.specs.Flow.{IsFlow, depth_of}
 use Rattle.mc_model.specs.Choice.{CorrectsAlone, IsChosenFlow}
 use Rattle.mc_model.specs.Made.{measuring_order, corrected_measurement, flow_pattern}
 use Rattle.mc_model.specs.Depth.{NamesOutcome, IsChainFrom, IsChain, IsDependenceDepth}

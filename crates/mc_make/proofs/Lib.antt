@@ -1,4 +1,5 @@
 pub mod SetSums
+pub mod FlippedBits
 pub mod GraphStates
 pub mod MeasuringOrder
 pub mod OrderLists

@@ -1,9 +1,8 @@
 -- The commands of a flow's pattern, as loops append them, and the pattern that they make.
-use Rattle.std.proofs.Common.{◌≡◌, ℕ, zero, suc, ◌+◌, ◌*◌, ◌<◌, ◌≤◌, Bool, true, false, cond, ◌&&◌}
-use Rattle.std.proofs.Common.{not, map, List, [], ◌∷◌, ◌++◌, length, take, refl, sym, ◌∙◌, ap}
+use Rattle.std.proofs.Common.{◌≡◌, ℕ, zero, suc, ◌+◌, ◌<◌, ◌≤◌, ◌&&◌}
+use Rattle.std.proofs.Common.{not, map, List, [], ◌∷◌, ◌++◌, length, take, sym, ◌∙◌, ap}
 use Rattle.std.proofs.Common.{append_assoc, append-nil, arith}
 use Rattle.std.specs.Prelude.{nat_eq, flat_map, slice_index}
-use Rattle.std.specs.List.{AllByRecursion}
 use Rattle.std.proofs.lemmas.List.{take_more}
 use Rattle.std.proofs.lemmas.List.Concat.{flat_map-append}
 use mathlib.Core.Path.{subst}
@@ -13,7 +12,7 @@ use Rattle.mc_model.specs.Numbers.{numbers_where}
 use Rattle.mc_model.specs.Signals.{signal_of}
 use Rattle.mc_model.specs.Pattern.{Command, FixX, FixZ, Pattern}
 use Rattle.mc_model.specs.Valid.{IsValidPattern}
-use Rattle.mc_model.specs.Graph.{OpenGraph, size, is_output, odd_neighbourhood, graph_state}
+use Rattle.mc_model.specs.Graph.{OpenGraph, size, odd_neighbourhood, graph_state}
 use Rattle.mc_model.specs.Graph.{fixed_corrections}
 use Rattle.mc_model.specs.Flow.{IsFlow, depth_of}
 use Rattle.mc_model.specs.Made.{measuring_order, corrected_measurement, flow_pattern}

@@ -1,5 +1,5 @@
 -- The laws of patterns made from flows, over the amplitude ring with any `half` above 0.
-use Rattle.std.specs.Prelude.{◌≡◌, ℕ, ◌<◌, ◌≤◌, Bool, true, false, not, List, [], ◌∷◌, ◌++◌, length}
+use Rattle.std.specs.Prelude.{◌≡◌, ℕ, ◌<◌, ◌≤◌, Bool, true, not, List, [], ◌∷◌, ◌++◌, length}
 use Rattle.mc_model.specs.Limits.{most_commands}
 use Rattle.mc_model.specs.Numbers.{ListsOnce}
 use Rattle.mc_model.specs.Bits.{Bits, all_zero}

@@ -1,9 +1,11 @@
 //! Making patterns.
 
-ghost use Rattle.std.specs.Prelude.{◌≡◌, ◌<◌, ◌≤◌, [], ◌∷◌, ◌++◌, List, Bool, cond, not, false, ◌&&◌};
+ghost use Rattle.std.specs.Prelude.{◌≡◌, ◌<◌, ◌≤◌, [], ◌∷◌, ◌++◌, List, length};
+ghost use Rattle.mc_bits.specs.Rows.{bit_of};
+ghost use Rattle.std.specs.Prelude.{Bool, cond, not, false, ◌&&◌};
 ghost use Rattle.std.specs.Prelude.{nat_eq, map, flat_map, IfOk, OnOk};
 ghost use Rattle.mc_model.specs.Numbers.{is_member, numbers_where};
-ghost use Rattle.mc_model.specs.Bits.{Bits, all_zero, parity};
+ghost use Rattle.mc_model.specs.Bits.{Bits, all_zero};
 ghost use Rattle.mc_model.specs.Signals.{signal_of as plain_signal_of};
 ghost use Rattle.mc_model.specs.Pattern.{FixX, FixZ};
 ghost use Rattle.mc_model.specs.Ring.{ring};
@@ -17,6 +19,8 @@ ghost use Rattle.mc_graph.specs.Flows.{IsFlowOf, set_in, sets_in, layer_in};
 use crate::laws::{
     flow_patterns_are_deterministic, flow_patterns_keep_scale, zero_branch_of_flow_pattern,
 };
+use crate::odd::odd_neighbours;
+use mc_bits::BitRow;
 use mc_graph::{GFlow, OpenGraph, QSet, order_of, pattern_of, push_measurement, state_of};
 use mc_model::Memory;
 use mc_pattern::{Command, Pattern, Signal};
@@ -83,31 +87,12 @@ fn push_z_if<const H: usize>(
     }
 }
 
-/// Whether an odd number of the listed vertices are in the set.
-fn is_odd_in(row: &[u16], set: &QSet) -> bool
-    ensures { result ≡ parity row.now (is_member set.now) }
+/// Whether a vertex is another one, with an odd number of neighbours in the set, which the row tells.
+fn needs_z(odd: &BitRow, q: u16, v: u16) -> bool
+    requires { v < length odd.now }
+    ensures { result ≡ (bit_of odd.now v && not (nat_eq v q)) }
 {
-    let mut odd = false;
-    'row: for v in row {
-        odd ^= set.has(*v);
-    }
-    odd
-}
-
-/// Whether a vertex has an odd number of neighbours in the set.
-fn is_odd<const H: usize>(g: &OpenGraph<H>, set: &QSet, v: u16) -> bool
-    requires { v < size g.now }
-    ensures { result ≡ odd_neighbourhood g.now (is_member set.now) v }
-{
-    is_odd_in(g.neighbours(v), set)
-}
-
-/// Whether a vertex is another one, with an odd number of neighbours in the set.
-fn needs_z<const H: usize>(g: &OpenGraph<H>, set: &QSet, q: u16, v: u16) -> bool
-    requires { v < size g.now }
-    ensures { result ≡ (odd_neighbourhood g.now (is_member set.now) v && not (nat_eq v q)) }
-{
-    is_odd(g, set, v) && v != q
+    odd.bit(v) && v != q
 }
 
 /// Appends the corrections by `X`, on the set.
@@ -143,8 +128,9 @@ fn push_zs<const H: usize>(
         ++ map (λ k. FixZ k (plain_signal_of q)) (numbers_where
         (λ k. odd_neighbourhood g.now (is_member set.now) k && not (nat_eq k q)) (size g.now))) }
 {
+    let odd = odd_neighbours(g, set);
     'vertices: for v in 0..g.len() {
-        push_z_if(alloc, needs_z(g, set, q, v), v, q, commands)?;
+        push_z_if(alloc, needs_z(&odd, q, v), v, q, commands)?;
     }
     Ok(())
 }

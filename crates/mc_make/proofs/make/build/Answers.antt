@@ -1,16 +1,15 @@
-use Rattle.std.proofs.Common.{◌≡◌, ℕ, List, ◌++◌, ◌∙◌, ap, map, arith, take}
-use Rattle.std.specs.Prelude.{flat_map, slice_index}
+use Rattle.std.proofs.Common.{ℕ, List, ◌++◌, ◌∙◌, ap, map, arith}
+use Rattle.std.specs.Prelude.{slice_index}
 use Rattle.std.proofs.lemmas.List.{take_all}
 use Rattle.std.proofs.lemmas.Result.{IfOk-weaker}
-use Rattle.mc_model.specs.Bits.{Bits}
 use Rattle.mc_model.specs.Numbers.{is_member}
-use Rattle.mc_model.specs.Pattern.{Command, Pattern}
+use Rattle.mc_model.specs.Pattern.{Command}
 use Rattle.mc_model.specs.Graph.{graph_state}
-use Rattle.mc_model.specs.Made.{corrected_measurement, flow_pattern}
+use Rattle.mc_model.specs.Made.{corrected_measurement}
 use Rattle.mc_pattern.specs.Commands.{plain_command}
 use Rattle.mc_graph.specs.Flows.{sets_in, layer_in}
 use Rattle.mc_graph.specs.Patterns.{pattern_with}
-use Rattle.mc_make.proofs.MadeCommands.{listed_more, to_measure, corrected_state, flow_is}
+use Rattle.mc_make.proofs.MadeCommands.{listed_more, to_measure, flow_is}
 use Rattle.mc_make.proofs.MadeCommands.{flow_is_pattern}
 use Rattle.mc_make.proofs.make.build.Goals as goal
 

@@ -1,9 +1,9 @@
-use Rattle.std.proofs.Common.{◌≡◌, ℕ, ◌++◌, ◌&&◌, not, map, nat_eq, List}
+use Rattle.std.proofs.Common.{◌&&◌, not, map, nat_eq}
 use Rattle.std.proofs.lemmas.Result.{on_ok_weaker}
 use Rattle.mc_model.specs.Bits.{Bits}
 use Rattle.mc_model.specs.Numbers.{is_member, numbers_where}
 use Rattle.mc_model.specs.Signals.{signal_of}
-use Rattle.mc_model.specs.Pattern.{Command, FixX, FixZ}
+use Rattle.mc_model.specs.Pattern.{FixX, FixZ}
 use Rattle.mc_model.specs.Graph.{size, odd_neighbourhood, bare_measurement}
 use Rattle.mc_model.specs.Made.{corrected_measurement}
 use Rattle.mc_pattern.specs.Commands.{plain_command}

@@ -1,10 +1,10 @@
-use Rattle.std.proofs.Common.{◌≡◌, ℕ, ◌++◌, ◌&&◌, not, arith, map, nat_eq}
+use Rattle.std.proofs.Common.{◌≡◌, ℕ, ◌++◌, arith, map}
 use mathlib.Core.Path.{subst}
 use Rattle.mc_model.specs.Bits.{Bits}
 use Rattle.mc_model.specs.Numbers.{is_member, numbers_where}
 use Rattle.mc_model.specs.Signals.{signal_of}
 use Rattle.mc_model.specs.Pattern.{FixX}
-use Rattle.mc_model.specs.Graph.{size, odd_neighbourhood}
+use Rattle.mc_model.specs.Graph.{size}
 use Rattle.mc_pattern.specs.Commands.{plain_command}
 use Rattle.mc_graph.proofs.GraphCommands.{told_more}
 use Rattle.mc_make.proofs.make.push_xs.Goals as goal

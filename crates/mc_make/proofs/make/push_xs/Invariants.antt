@@ -1,8 +1,7 @@
-use Rattle.std.proofs.Common.{◌≡◌, ◌++◌, ◌&&◌, not, map, nat_eq}
+use Rattle.std.proofs.Common.{◌≡◌, ◌++◌, map}
 use Rattle.mc_model.specs.Numbers.{is_member, numbers_where}
 use Rattle.mc_model.specs.Signals.{signal_of}
 use Rattle.mc_model.specs.Pattern.{FixX}
-use Rattle.mc_model.specs.Graph.{odd_neighbourhood}
 use Rattle.mc_pattern.specs.Commands.{plain_command}
 use Rattle.mc_make.proofs.make.push_xs.Given as goal
 
