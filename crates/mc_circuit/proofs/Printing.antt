@@ -2,6 +2,8 @@
 use Rattle.std.proofs.Common.{◌≡◌, ℕ, ◌<◌, zero, suc, List, [], ◌∷◌, ◌++◌, length, map, take, drop}
 use Rattle.std.proofs.Common.{get_or, codes, refl, sym, subst, ◌∙◌, append_assoc, arith}
 use Rattle.std.proofs.lemmas.Grind.{flat_map-append}
+use Rattle.mc_lex.specs.declared.kind.Kind.TheVariants as kind
+use Rattle.mc_text.specs.Headers.{header_words}
 use Rattle.mc_write.specs.Text.{line_text, text_of}
 use Rattle.mc_write.specs.Named.{name_at}
 use Rattle.mc_model.specs.Pattern.{Circuit, Gate, J, CZ}
@@ -29,34 +31,34 @@ GatesFit-at f wires (y ∷ xs) (suc i) x e lt h =
 regroup : (a b c d e f : List ℕ) → ((((a ++ b) ++ c) ++ d) ++ e) ++ f ≡ a ++ (b ++ (c ++ (d ++ (e ++ f))))
 regroup a b c d e f = simp append_assoc
 
-parts : (c : Circuit) →
-    (((((line_text (codes "circuit" ∷ codes "1" ∷ []) ++ line_text (codes "in" ∷ take c.inputs c.names))
+parts : (half : ℕ) (c : Circuit) →
+    (((((line_text (header_words kind.Circuit 1 half) ++ line_text (codes "in" ∷ take c.inputs c.names))
     ++ text_of (plus_lines (drop c.inputs c.names)))
     ++ text_of (map (gate_line c.names) c.gates))
     ++ line_text (codes "out" ∷ map (name_at c.names) c.outputs))
     ++ line_text (codes "end" ∷ []))
-    ≡ circuit_text c
-parts c =
+    ≡ circuit_text half c
+parts half c =
     let gates = map (gate_line c.names) c.gates in
     let out = codes "out" ∷ map (name_at c.names) c.outputs in
     let plus = plus_lines (drop c.inputs c.names) in
     let end = (codes "end" ∷ []) ∷ [] in
     let last = flat_map-append line_text gates (out ∷ end) in
     let all = flat_map-append line_text plus (gates ++ out ∷ end) in
-    regroup (line_text (codes "circuit" ∷ codes "1" ∷ [])) (line_text (codes "in" ∷ take c.inputs c.names))
+    regroup (line_text (header_words kind.Circuit 1 half)) (line_text (codes "in" ∷ take c.inputs c.names))
     (text_of plus) (text_of gates) (line_text out) (line_text (codes "end" ∷ []))
     ∙ rw (all, last) refl
 
 -- what is written, part by part
-pub record IsPrinted (c : Circuit) (headed with_inputs with_plus with_gates with_outputs whole : List ℕ) : Type 0 where
-  pub header : headed ≡ line_text (codes "circuit" ∷ codes "1" ∷ [])
+pub record IsPrinted (half : ℕ) (c : Circuit) (headed with_inputs with_plus with_gates with_outputs whole : List ℕ) : Type 0 where
+  pub header : headed ≡ line_text (header_words kind.Circuit 1 half)
   pub inputs : with_inputs ≡ headed ++ line_text (codes "in" ∷ take c.inputs c.names)
   pub plus : with_plus ≡ with_inputs ++ text_of (plus_lines (drop c.inputs c.names))
   pub gates : with_gates ≡ with_plus ++ text_of (map (gate_line c.names) c.gates)
   pub outputs : with_outputs ≡ with_gates ++ line_text (codes "out" ∷ map (name_at c.names) c.outputs)
   pub end : whole ≡ with_outputs ++ line_text (codes "end" ∷ [])
 
-pub printed : (c : Circuit) (headed with_inputs with_plus with_gates with_outputs whole : List ℕ)
-    → IsPrinted c headed with_inputs with_plus with_gates with_outputs whole → whole ≡ circuit_text c
-printed c headed with_inputs with_plus with_gates with_outputs whole h =
-    rw (h.end, h.outputs, h.gates, h.plus, h.inputs, h.header) (parts c)
+pub printed : (half : ℕ) (c : Circuit) (headed with_inputs with_plus with_gates with_outputs whole : List ℕ)
+    → IsPrinted half c headed with_inputs with_plus with_gates with_outputs whole → whole ≡ circuit_text half c
+printed half c headed with_inputs with_plus with_gates with_outputs whole h =
+    rw (h.end, h.outputs, h.gates, h.plus, h.inputs, h.header) (parts half c)

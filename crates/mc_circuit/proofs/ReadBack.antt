@@ -1,7 +1,7 @@
 -- The canonical text of a circuit is read without a fault, as that circuit.
 use Rattle.std.proofs.Common.{◌≡◌, ℕ, suc, ◌<◌, List, [], ◌∷◌, ◌++◌, All, Bool, true, false, ◌&&◌}
 use Rattle.std.proofs.Common.{Option, Some, None, length, map, take, drop, codes, refl, sym, ap}
-use Rattle.std.proofs.Common.{◌∙◌, length-append, arith, IsTrue, ◌≤◌}
+use Rattle.std.proofs.Common.{◌∙◌, length-append, arith, IsTrue, ◌≤◌, if◌then◌else◌, ◌==◌}
 use Rattle.std.specs.Fmt.{decimal}
 use Rattle.std.specs.List.{flat_map, filter_map, list_all, IsDistinct, AllByRecursion}
 use Rattle.std.proofs.lemmas.Grind.{flat_map-append}
@@ -16,7 +16,9 @@ use Rattle.mc_model.specs.Steps.{is_permitted}
 use Rattle.mc_model.proofs.StepLemmas.{permitted_at_most}
 use Rattle.mc_model.specs.Valid.{GatesFit}
 use Rattle.mc_angle.proofs.Numerals.{angle-decimal, number-decimal}
+use Rattle.mc_lex.specs.declared.kind.Kind.TheVariants as kind
 use Rattle.mc_lex.specs.Lines.{end_of}
+use Rattle.mc_text.specs.Headers.{header_words, turn_words}
 use Rattle.mc_write.specs.Named.{name_at}
 use Rattle.mc_text.specs.declared.head.Head.{Head}
 use Rattle.mc_text.specs.declared.head.Head.TheVariants.{Plus, J, Cz}
@@ -195,8 +197,16 @@ outputs_written ns (q ∷ qs) valid below =
     let rest = outputs_written ns qs valid (λ k d l. below (suc k) d (omega arith)) in
     rw (name, rest) refl
 
+turn_written : (half : ℕ) → list_all is_written (turn_words half) ≡ true
+turn_written half = by_test (half == 8)
+  where
+    by_test : (t : Bool)
+        → list_all is_written (if t then codes "turn" ∷ codes "16" ∷ [] else []) ≡ true
+    by_test true = refl
+    by_test false = refl
+
 circuit_written : (half : ℕ) (c : Circuit) → IsCircuit half c → IsTrue (is_permitted half)
-    → list_all is_written_line ((codes "circuit" ∷ codes "1" ∷ []) ∷ circuit_lines c) ≡ true
+    → list_all is_written_line (header_words kind.Circuit 1 half ∷ circuit_lines c) ≡ true
 circuit_written half c h permitted =
     let valid = list_all-from_AllPass is_name c.names h.valid.names.valid in
     let parts = all_parts is_written c.inputs c.names (names_written c.names valid) in
@@ -206,6 +216,7 @@ circuit_written half c h permitted =
     let out = codes "out" ∷ map (name_at c.names) c.outputs in
     let end = (codes "end" ∷ []) ∷ [] in
     rw (
+      turn_written half,
       parts.0,
       list_all-append is_written_line (plus_lines (drop c.inputs c.names))
           (map (gate_line c.names) c.gates ++ out ∷ end),
@@ -303,20 +314,20 @@ circuit_back half c h permitted =
     rw (defined, inputs, few, outputs, ← are.numbers_are, gates_of c, gates) refl
 
 pub text_read : (half : ℕ) (c : Circuit) → IsCircuit half c → IsTrue (is_permitted half)
-    → IsRead circuit_rules [] (circuit_lines c) (behind_header (circuit_text c))
-    (end_of (circuit_text c))
+    → IsRead circuit_rules [] (circuit_lines c) (behind_header (circuit_text half c))
+    (end_of (circuit_text half c))
 text_read half c h permitted =
-    written_read circuit_rules (codes "circuit" ∷ codes "1" ∷ []) (circuit_lines c)
-    (end_of (circuit_text c)) (circuit_written half c h permitted)
+    written_read circuit_rules (header_words kind.Circuit 1 half) (circuit_lines c)
+    (end_of (circuit_text half c)) (circuit_written half c h permitted)
     (circuit_clean half c h permitted)
 
 pub text_back : (half : ℕ) (c : Circuit) → IsCircuit half c → IsTrue (is_permitted half)
-    → circuit_of half (section_lines (behind_header (circuit_text c))) ≡ c
+    → circuit_of half (section_lines (behind_header (circuit_text half c))) ≡ c
 text_back half c h permitted =
     ap (circuit_of half) (text_read half c h permitted).same ∙ circuit_back half c h permitted
 
 pub same_text : (half : ℕ) (c d : Circuit) → IsCircuit half c → IsCircuit half d
-    → IsTrue (is_permitted half) → circuit_text c ≡ circuit_text d → c ≡ d
+    → IsTrue (is_permitted half) → circuit_text half c ≡ circuit_text half d → c ≡ d
 same_text half c d h k permitted e =
     sym (text_back half c h permitted)
     ∙ ap (λ text. circuit_of half (section_lines (behind_header text))) e

@@ -1,7 +1,9 @@
 -- The canonical text of a circuit.
 use Rattle.std.specs.Prelude.{ℕ, List, [], ◌∷◌, ◌++◌, map, codes, take, drop}
 use Rattle.std.specs.Fmt.{decimal}
+use Rattle.mc_lex.specs.declared.kind.Kind.TheVariants as kind
 use Rattle.mc_lex.specs.Lines as lex
+use Rattle.mc_text.specs.Headers.{header_words}
 use Rattle.mc_write.specs.Text.{Line, text_of}
 use Rattle.mc_write.specs.Named.{name_at}
 use Rattle.mc_model.specs.Names.{Name}
@@ -24,9 +26,9 @@ circuit_lines c =
     ++ (map (gate_line c.names) c.gates
     ++ (codes "out" ∷ map (name_at c.names) c.outputs) ∷ (codes "end" ∷ []) ∷ []))
 
--- the text, with its header
-abbrev pub circuit_text : Circuit → List ℕ
-circuit_text c = text_of ((codes "circuit" ∷ codes "1" ∷ []) ∷ circuit_lines c)
+-- the text, with its header, where half a turn has so many steps
+abbrev pub circuit_text : ℕ → Circuit → List ℕ
+circuit_text half c = text_of (header_words kind.Circuit 1 half ∷ circuit_lines c)
 
 -- the lines of a text behind its header
 abbrev pub behind_header : List ℕ → List lex.Line

@@ -14,13 +14,13 @@ ghost use Rattle.mc_circuit.specs.Canonical.{circuit_text, behind_header};
 pub fn canonical_texts_are_read<const H: usize>()
     requires { IsTrue (is_permitted H) }
     ensures clean { (c : Circuit) → IsCircuit H c
-        → first_in_section circuit_rules [] (behind_header (circuit_text c)) (end_of (circuit_text c)) ≡ None }
-    ensures whole { (c : Circuit) → IsCircuit H c → behind_section (behind_header (circuit_text c)) ≡ [] }
-    ensures same { (c : Circuit) → IsCircuit H c → circuit_of H (section_lines (behind_header (circuit_text c))) ≡ c }
+        → first_in_section circuit_rules [] (behind_header (circuit_text H c)) (end_of (circuit_text H c)) ≡ None }
+    ensures whole { (c : Circuit) → IsCircuit H c → behind_section (behind_header (circuit_text H c)) ≡ [] }
+    ensures same { (c : Circuit) → IsCircuit H c → circuit_of H (section_lines (behind_header (circuit_text H c))) ≡ c }
 {}
 
 /// Two circuits have two canonical texts.
 pub fn canonical_texts_differ<const H: usize>()
     requires { IsTrue (is_permitted H) }
-    ensures { (c d : Circuit) → IsCircuit H c → IsCircuit H d → circuit_text c ≡ circuit_text d → c ≡ d }
+    ensures { (c d : Circuit) → IsCircuit H c → IsCircuit H d → circuit_text H c ≡ circuit_text H d → c ≡ d }
 {}

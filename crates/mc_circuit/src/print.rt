@@ -12,20 +12,12 @@ ghost use Rattle.mc_circuit.specs.Canonical.{gate_line, plus_lines, circuit_text
 use crate::circuit::Circuit;
 use crate::gate::Gate;
 use mc_angle::Angle;
+use mc_lex::Kind;
 use mc_model::Memory;
 use mc_names::Names;
-use mc_write::{
-    add_name, add_names, add_names_between, add_number, add_word, end_line, start_line,
-};
+use mc_text::print_header;
+use mc_write::{add_name, add_names, add_names_between, add_number, end_line, start_line};
 use std::alloc::Global;
-
-fn print_header(text: &mut Vec<u8>) -> Result<(), Memory>
-    ensures { OnOk result (text.new.items ≡ text.old.items ++ line_text (codes "circuit" ∷ codes "1" ∷ [])) }
-{
-    start_line(text, b"circuit")?;
-    add_word(text, b"1")?;
-    end_line(text)
-}
 
 fn print_inputs(text: &mut Vec<u8>, names: &Names, inputs: u16) -> Result<(), Memory>
     requires { inputs ≤ length names.now }
@@ -124,11 +116,11 @@ fn print_end(text: &mut Vec<u8>) -> Result<(), Memory>
 
 /// The canonical text of a circuit.
 pub fn print_circuit<const H: usize>(alloc: Global, circuit: &Circuit<H>) -> Result<Vec<u8>, Memory>
-    ensures { IfOk result (λ text. text.items ≡ circuit_text circuit.now) }
+    ensures { IfOk result (λ text. text.items ≡ circuit_text H circuit.now) }
 {
     let mut text = Vec::new(alloc);
     let names = circuit.names();
-    print_header(&mut text)?;
+    print_header(&mut text, Kind::Circuit, 1, H)?;
     print_inputs(&mut text, names, circuit.inputs())?;
     print_plus(&mut text, names, circuit.inputs())?;
     print_gates(&mut text, names, circuit.gates())?;

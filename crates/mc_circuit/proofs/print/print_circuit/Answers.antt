@@ -3,7 +3,7 @@ use Rattle.mc_circuit.proofs.print.print_circuit.Goals as goal
 
 pub returns : goal.returns
 returns g c =
-    let printed_parts : IsPrinted c.args.circuit.now
+    let printed_parts : IsPrinted g.row.H c.args.circuit.now
     c.print_header.new.text.items c.print_inputs.new.text.items c.print_plus.new.text.items
     c.print_gates.new.text.items c.print_outputs.new.text.items c.print_end.new.text.items =
     record {
@@ -14,4 +14,4 @@ returns g c =
       outputs = rw (← c.names-names.ensures.names, ← c.out.ensures) c.in_ok-print_outputs.ensures;
       end = c.in_ok-print_end.ensures;
     } in
-    printed c.args.circuit.now _ _ _ _ _ _ printed_parts
+    printed g.row.H c.args.circuit.now _ _ _ _ _ _ printed_parts
