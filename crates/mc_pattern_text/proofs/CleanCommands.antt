@@ -16,7 +16,7 @@ use Rattle.mc_write.specs.Named.{name_at}
 use Rattle.mc_text.specs.declared.head.Head.{Head}
 use Rattle.mc_text.specs.Heads.{head_of}
 use Rattle.mc_text.specs.Points.{last_head}
-use Rattle.mc_text.specs.Judged.{Words, Lines}
+use Rattle.mc_text.specs.Judged.{Words, Lines, Rules}
 use Rattle.mc_text.specs.Rules.{known_name}
 use Rattle.mc_text.specs.Lists.{names_at}
 use Rattle.mc_text.proofs.Clean.{CleanWords}
@@ -25,7 +25,6 @@ use Rattle.mc_pattern_text.specs.Roles.{may_follow, follows_command, is_command,
 use Rattle.mc_pattern_text.specs.Roles.{is_output}
 use Rattle.mc_pattern_text.specs.Value.{spelled_commands}
 use Rattle.mc_pattern_text.specs.Judge.{measured_in, still_name, member_name, next_record}
-use Rattle.mc_pattern_text.specs.Judge.{pattern_rules}
 use Rattle.mc_pattern_text.proofs.NamedSignals.{member-listed, member_free}
 use Rattle.mc_pattern_text.proofs.Parts.{all_front, among, below_all}
 
@@ -184,17 +183,16 @@ signal_members ns inputs before done s h fits =
     }
 
 -- where each word is judged as a member, behind the members before it, nothing is against a signal
-pub members_clean : (ns names measured : List Name) (before : Lines) (here : Words)
-    (done qs : List ℕ)
-    (tail : Words) → AreNames ns → AreMembers ns names measured (done ++ qs)
+pub members_clean : (rules : Rules) (ns names measured : List Name) (before : Lines) (here : Words)
+    (done qs : List ℕ) (tail : Words) → AreNames ns → AreMembers ns names measured (done ++ qs)
     → ((front : List ℕ) (q : ℕ) → All (λ r. r < length ns) front → q < length ns
-    → pattern_rules.judge before (here ++ map (name_at ns) front) (name_at ns q)
+    → rules.judge before (here ++ map (name_at ns) front) (name_at ns q)
     ≡ member_name names measured (map (name_at ns) front) (name_at ns q))
-    → CleanWords pattern_rules before (here ++ map (name_at ns) (done ++ qs)) tail
-    → CleanWords pattern_rules before (here ++ map (name_at ns) done) (map (name_at ns) qs ++ tail)
-members_clean ns names measured before here done [] tail valid are judged rest =
+    → CleanWords rules before (here ++ map (name_at ns) (done ++ qs)) tail
+    → CleanWords rules before (here ++ map (name_at ns) done) (map (name_at ns) qs ++ tail)
+members_clean rules ns names measured before here done [] tail valid are judged rest =
     rw (append-nil done) at rest
-members_clean ns names measured before here done (q ∷ qs) tail valid are judged rest =
+members_clean rules ns names measured before here done (q ∷ qs) tail valid are judged rest =
     let is = among done q qs in
     let lt = below_by (length ns) (done ++ q ∷ qs) q are.below is in
     let front = all_front (length ns) done (q ∷ qs) are.below in
@@ -202,7 +200,7 @@ members_clean ns names measured before here done (q ∷ qs) tail valid are judge
     let known = are.known q is in
     let early = are.early q is in
     let next : (done ++ q ∷ []) ++ qs ≡ done ++ (q ∷ qs) = append_assoc done (q ∷ []) qs in
-    let later = members_clean ns names measured before here (done ++ q ∷ []) qs tail valid
+    let later = members_clean rules ns names measured before here (done ++ q ∷ []) qs tail valid
     (rw next are) judged (rw next rest) in
     let line : here ++ map (name_at ns) (done ++ q ∷ [])
     ≡ (here ++ map (name_at ns) done) ++ name_at ns q ∷ [] =

@@ -1,6 +1,8 @@
 -- Nothing is against the lines of a pattern's canonical text.
-use Rattle.std.proofs.Common.{◌≡◌, ℕ, suc, ◌+◌, ◌*◌, ◌<◌, ◌≤◌, Bool, true, false, ◌&&◌, All, List}
-use Rattle.std.proofs.Common.{[], ◌∷◌, ◌++◌, length, map, take, drop, fold, codes, refl, sym, subst}
+use Rattle.std.proofs.Common.{◌≡◌, ℕ, suc, ◌+◌, ◌*◌, ◌<◌, ◌≤◌, Bool, true}
+use Rattle.std.proofs.Common.{false, ◌&&◌, ◌||◌, All}
+use Rattle.std.proofs.Common.{List, [], ◌∷◌, ◌++◌, length, map, take, drop, fold, codes, refl, sym}
+use Rattle.std.proofs.Common.{subst}
 use Rattle.std.proofs.Common.{ap, ◌∙◌, append_assoc, arith, ne_eqb, nat_le, ◌⊎◌, Option, Some, None}
 use Rattle.std.proofs.Common.{IsTrue, if◌then◌else◌}
 use Rattle.std.specs.Fmt.{decimal}
@@ -11,8 +13,9 @@ use mathlib.Core.Logic.{inl, inr}
 use Rattle.mc_angle.specs.Number.{is_number, is_digit}
 use Rattle.std.proofs.lemmas.Bool.Decides.{nat_tests}
 use Rattle.std.proofs.lemmas.List.{append-nil, length-take-le}
-use Rattle.mc_model.specs.Names.{Name, AreNames, is_name, is_name_byte}
-use Rattle.mc_model.specs.Pattern.{Command, Prep, Ent, Meas, FixX, FixZ}
+use Rattle.mc_model.specs.Names.{Name, AreNames, is_name, is_held, is_name_byte}
+use Rattle.mc_model.specs.Signals.{Signal}
+use Rattle.mc_model.specs.Pattern.{Command, Prep, Ent, Meas, FixX, FixZ, has_constant}
 use Rattle.mc_model.specs.Steps.{is_permitted}
 use Rattle.mc_model.proofs.StepLemmas.{permitted_at_most}
 use Rattle.mc_model.specs.Valid.{FitsBehind, prepared}
@@ -20,6 +23,7 @@ use Rattle.mc_model.proofs.ValidLemmas.{prepared-append}
 use Rattle.mc_angle.proofs.Numerals.{angle-decimal, number-decimal}
 use Rattle.mc_pattern.specs.Typed.{IsTyped}
 use Rattle.mc_write.specs.Named.{name_at}
+use Rattle.mc_text.specs.declared.head.Head.TheVariants.{M}
 use Rattle.mc_text.specs.declared.point.Mark.{Mark}
 use Rattle.mc_text.specs.declared.point.Mark.TheVariants.{S, T}
 use Rattle.mc_text.specs.Heads.{head_of}
@@ -33,15 +37,16 @@ use Rattle.mc_text.proofs.Clean.{CleanWords}
 use Rattle.mc_text.proofs.Naming.{is_name-name_at, distinct_front, names_apart}
 use Rattle.mc_pattern_text.specs.Roles.{role_in, role_of, role_behind, is_defining}
 use Rattle.mc_pattern_text.specs.Value.{is_first, is_second, word_under, words_under}
-use Rattle.mc_pattern_text.specs.Judge.{measured_in, member_name, pattern_rules}
-use Rattle.mc_pattern_text.specs.Canonical.{marked, command_line}
+use Rattle.mc_pattern_text.specs.Judge.{measured_in, member_name, term_word, rules_with}
+use Rattle.mc_pattern_text.specs.Canonical.{constant_words, signal_words, marked, command_line}
 use Rattle.mc_pattern_text.proofs.Under.{onto_mark, mark_at}
+use Rattle.mc_pattern_text.proofs.Terms.{name_no_constant}
 use Rattle.mc_pattern_text.proofs.CleanCommands.{AreThere, AreMembers, record_clean, still_clean}
 use Rattle.mc_pattern_text.proofs.CleanCommands.{signal_members, members_clean, split_at}
-use Rattle.mc_pattern_text.proofs.Parts.{and_both}
+use Rattle.mc_pattern_text.proofs.Parts.{and_both, or_right}
 
 -- the role of a word behind the first of a correction
-correction_role : (before : Lines) (h : List ℕ) (w : List ℕ) (list : Words)
+pub correction_role : (before : Lines) (h : List ℕ) (w : List ℕ) (list : Words)
     → role_of (point_of before (h ∷ w ∷ list))
     ≡ role_in (head_of h) (point_of before (h ∷ w ∷ list)).count
     (point_of before (h ∷ w ∷ list)).mark
@@ -50,35 +55,35 @@ correction_role before h w list =
     let some = ne_eqb (point_of before (h ∷ w ∷ list)).count 0 (λ none. omega arith) in
     rw (some, head_at before (h ∷ w ∷ list)) refl
 
-x_judged : (ns : List Name) (before : Lines) (w word : List ℕ) (list : Words)
-    → pattern_rules.judge before (codes "x" ∷ w ∷ list) word
-    ≡ member_name (names_at is_defining before []) (measured_in before) list word
-x_judged ns before w word list =
+x_judged : (constants : Bool) (before : Lines) (w word : List ℕ) (list : Words)
+    → (rules_with constants).judge before (codes "x" ∷ w ∷ list) word
+    ≡ term_word constants (names_at is_defining before []) (measured_in before) list word
+x_judged constants before w word list =
     let p = point_of before (codes "x" ∷ w ∷ list) in
     let count = count_at before (codes "x" ∷ w ∷ list) in
     let many = ne_eqb p.count 1 (λ one. omega arith) in
     rw (correction_role before (codes "x") w list, many, head_at before (codes "x" ∷ w ∷ list)) refl
 
-z_judged : (ns : List Name) (before : Lines) (w word : List ℕ) (list : Words)
-    → pattern_rules.judge before (codes "z" ∷ w ∷ list) word
-    ≡ member_name (names_at is_defining before []) (measured_in before) list word
-z_judged ns before w word list =
+z_judged : (constants : Bool) (before : Lines) (w word : List ℕ) (list : Words)
+    → (rules_with constants).judge before (codes "z" ∷ w ∷ list) word
+    ≡ term_word constants (names_at is_defining before []) (measured_in before) list word
+z_judged constants before w word list =
     let p = point_of before (codes "z" ∷ w ∷ list) in
     let count = count_at before (codes "z" ∷ w ∷ list) in
     let many = ne_eqb p.count 1 (λ one. omega arith) in
     rw (correction_role before (codes "z") w list, many, head_at before (codes "z" ∷ w ∷ list)) refl
 
-x_lacks : (before : Lines) (w : List ℕ) (list : Words)
-    → pattern_rules.lacks before (codes "x" ∷ w ∷ list) ≡ None
-x_lacks before w list =
+x_lacks : (constants : Bool) (before : Lines) (w : List ℕ) (list : Words)
+    → (rules_with constants).lacks before (codes "x" ∷ w ∷ list) ≡ None
+x_lacks constants before w list =
     let p = point_of before (codes "x" ∷ w ∷ list) in
     let count = count_at before (codes "x" ∷ w ∷ list) in
     let many = ne_eqb p.count 1 (λ one. omega arith) in
     rw (correction_role before (codes "x") w list, many) refl
 
-z_lacks : (before : Lines) (w : List ℕ) (list : Words)
-    → pattern_rules.lacks before (codes "z" ∷ w ∷ list) ≡ None
-z_lacks before w list =
+z_lacks : (constants : Bool) (before : Lines) (w : List ℕ) (list : Words)
+    → (rules_with constants).lacks before (codes "z" ∷ w ∷ list) ≡ None
+z_lacks constants before w list =
     let p = point_of before (codes "z" ∷ w ∷ list) in
     let count = count_at before (codes "z" ∷ w ∷ list) in
     let many = ne_eqb p.count 1 (λ one. omega arith) in
@@ -118,18 +123,85 @@ names_unmarked ns (q ∷ qs) valid below =
     (name_no_mark (name_at ns q) (is_name-name_at ns q valid lt))
     (names_unmarked ns qs valid (λ k d l. below (suc k) d (omega arith)))
 
+pub signal_unmarked : (ns : List Name) (qs : List ℕ) (b : Bool) → AreNames ns
+    → All (λ q. q < length ns) qs → AreUnmarked (map (name_at ns) qs ++ constant_words b)
+signal_unmarked ns [] false valid below = unmarked_none
+signal_unmarked ns [] true valid below = unmarked-cons (codes "!") [] refl unmarked_none
+signal_unmarked ns (q ∷ qs) b valid below =
+    let lt : q < length ns = below 0 q (omega arith) in
+    unmarked-cons (name_at ns q) (map (name_at ns) qs ++ constant_words b)
+    (name_no_mark (name_at ns q) (is_name-name_at ns q valid lt))
+    (signal_unmarked ns qs b valid (λ k d l. below (suc k) d (omega arith)))
+
+-- a name is judged as a member, and the constant stands behind names alone
+name_term : (constants : Bool) (names measured : List Name) (words : Words) (word : List ℕ)
+    → is_name word ≡ true
+    → term_word constants names measured words word ≡ member_name names measured words word
+name_term true names measured words word named = rw (name_no_constant word named) refl
+name_term false names measured words word named = refl
+
+constant_free : (ns : List Name) (qs : List ℕ) → AreNames ns → All (λ q. q < length ns) qs
+    → is_held (map (name_at ns) qs) (codes "!") ≡ false
+constant_free ns [] valid below = refl
+constant_free ns (q ∷ qs) valid below =
+    let lt : q < length ns = below 0 q (omega arith) in
+    let other = name_no_constant (name_at ns q) (is_name-name_at ns q valid lt) in
+    rw (other, constant_free ns qs valid (λ k d l. below (suc k) d (omega arith))) refl
+
+-- where each word is judged as a term, nothing is against a signal
+module _ (constants : Bool) (ns names measured : List Name) (before : Lines) (here : Words)
+    (judged : (list : Words) (word : List ℕ) → AreUnmarked list → mark_of word ≡ None
+    → (rules_with constants).judge before (here ++ list) word
+    ≡ term_word constants names measured list word) where
+  constant_clean : (qs : List ℕ) (b : Bool) (tail : Words) → AreNames ns
+      → All (λ q. q < length ns) qs → (b ≡ true → constants ≡ true)
+      → CleanWords (rules_with constants) before (here ++ (map (name_at ns) qs ++ constant_words b))
+      tail
+      → CleanWords (rules_with constants) before (here ++ map (name_at ns) qs)
+      (constant_words b ++ tail)
+  constant_clean qs false tail valid below permits rest =
+      rw (append-nil (map (name_at ns) qs)) at rest
+  constant_clean qs true tail valid below permits rest =
+      let list = map (name_at ns) qs in
+      let free = constant_free ns qs valid below in
+      let clean : term_word constants names measured list (codes "!") ≡ None =
+      rw (permits refl, free) refl in (
+        judged list (codes "!") (names_unmarked ns qs valid below) refl ∙ clean,
+        rw (← append_assoc here list (codes "!" ∷ [])) at rest,
+      )
+
+  signal_clean : (qs : List ℕ) (b : Bool) (tail : Words) → AreNames ns
+      → AreMembers ns names measured qs → (b ≡ true → constants ≡ true)
+      → CleanWords (rules_with constants) before (here ++ (map (name_at ns) qs ++ constant_words b))
+      tail
+      → CleanWords (rules_with constants) before here
+      ((map (name_at ns) qs ++ constant_words b) ++ tail)
+  signal_clean qs b tail valid are permits rest =
+      let clean = members_clean (rules_with constants) ns names measured before here [] qs
+      (constant_words b ++ tail) valid are
+      (λ front q below lt.
+      let named = is_name-name_at ns q valid lt in
+      judged (map (name_at ns) front) (name_at ns q) (names_unmarked ns front valid below)
+      (name_no_mark (name_at ns q) named)
+      ∙ name_term constants names measured (map (name_at ns) front) (name_at ns q) named)
+      (constant_clean qs b tail valid are.below permits rest) in
+      subst (λ (words : Words). CleanWords (rules_with constants) before words
+      ((map (name_at ns) qs ++ constant_words b) ++ tail)) (append-nil here)
+      (subst (λ (words : Words). CleanWords (rules_with constants) before (here ++ []) words)
+      (sym (append_assoc (map (name_at ns) qs) (constant_words b) tail)) clean)
+
 -- the words of a measurement behind its angle
-m_role : (before : Lines) (w a : List ℕ) (words : Words)
-    → role_of (point_of before (codes "m" ∷ w ∷ a ∷ words))
+pub m_role : (before : Lines) (h w a : List ℕ) (words : Words) → head_of h ≡ Some M
+    → role_of (point_of before (h ∷ w ∷ a ∷ words))
     ≡ role_behind (fold onto_mark None (w ∷ a ∷ words))
-m_role before w a words =
-    let here = codes "m" ∷ w ∷ a ∷ words in
+m_role before h w a words g =
+    let here = h ∷ w ∷ a ∷ words in
     let p = point_of before here in
     let count = count_at before here in
     let none = ne_eqb p.count 0 (λ e. omega arith) in
     let one = ne_eqb p.count 1 (λ e. omega arith) in
     let two = ne_eqb p.count 2 (λ e. omega arith) in
-    rw (none, head_at before here, one, two, mark_at before (codes "m") (w ∷ a ∷ words)) refl
+    rw (none, head_at before here, g, one, two, mark_at before h (w ∷ a ∷ words)) refl
 
 -- a number is a name, and so no mark
 digit_name : (b : ℕ) → is_digit b ≡ true → is_name_byte b ≡ true
@@ -171,26 +243,25 @@ record AreFirst (firsts : Words) : Type 0 where
   mark : (fold onto_mark None firsts ≡ None) ⊎ (fold onto_mark None firsts ≡ Some S)
   none : words_under is_second None firsts ≡ []
 
-first_words : (ns : List Name) (qs : List ℕ) → AreNames ns → All (λ q. q < length ns) qs
-    → AreFirst (marked (codes "s:") ns qs)
-first_words ns [] valid below = record { mark = inl refl; none = refl }
-first_words ns (q ∷ qs) valid below =
-    let plain = names_unmarked ns (q ∷ qs) valid below in
+first_words : (words : Words) → AreUnmarked words → AreFirst (marked (codes "s:") words)
+first_words [] plain = record { mark = inl refl; none = refl }
+first_words (word ∷ words) plain =
     record { mark = inr (plain (Some S)).0; none = (plain (Some S)).1 is_second }
 
-module _ (before : Lines) (w a : List ℕ) (no_w : mark_of w ≡ None) (no_a : mark_of a ≡ None) where
-  s_judged : pattern_rules.judge before (codes "m" ∷ w ∷ a ∷ []) (codes "s:") ≡ None
-  s_judged = rw (m_role before w a [], no_w, no_a) refl
+module _ (constants : Bool) (before : Lines) (w a : List ℕ) (no_w : mark_of w ≡ None)
+    (no_a : mark_of a ≡ None) where
+  s_judged : (rules_with constants).judge before (codes "m" ∷ w ∷ a ∷ []) (codes "s:") ≡ None
+  s_judged = rw (m_role before (codes "m") w a [] refl, no_w, no_a) refl
 
   first_judged : (list : Words) (word : List ℕ) → AreUnmarked list → mark_of word ≡ None
-      → pattern_rules.judge before (codes "m" ∷ w ∷ a ∷ codes "s:" ∷ list) word
-      ≡ member_name (names_at is_defining before []) (measured_in before) list word
+      → (rules_with constants).judge before (codes "m" ∷ w ∷ a ∷ codes "s:" ∷ list) word
+      ≡ term_word constants (names_at is_defining before []) (measured_in before) list word
   first_judged list word plain none =
       let here = codes "m" ∷ w ∷ a ∷ codes "s:" ∷ list in
       let mark = (plain (Some S)).0 in
       let under = (plain (Some S)).1 is_first in
       rw (
-        m_role before w a (codes "s:" ∷ list),
+        m_role before (codes "m") w a (codes "s:" ∷ list) refl,
         head_at before here,
         mark_at before (codes "m") (w ∷ a ∷ codes "s:" ∷ list),
         no_w,
@@ -202,17 +273,17 @@ module _ (before : Lines) (w a : List ℕ) (no_w : mark_of w ≡ None) (no_a : m
       ) refl
 
   firsts_end : (firsts : Words) → AreFirst firsts
-      → pattern_rules.lacks before (codes "m" ∷ w ∷ a ∷ firsts) ≡ None
+      → (rules_with constants).lacks before (codes "m" ∷ w ∷ a ∷ firsts) ≡ None
   firsts_end firsts first = elim first.mark [
-    | inl none ↦ rw (m_role before w a firsts, no_w, no_a, none) refl
-    | inr some ↦ rw (m_role before w a firsts, no_w, no_a, some) refl
+    | inl none ↦ rw (m_role before (codes "m") w a firsts refl, no_w, no_a, none) refl
+    | inr some ↦ rw (m_role before (codes "m") w a firsts refl, no_w, no_a, some) refl
   ]
 
   t_judged : (firsts : Words) → AreFirst firsts
-      → pattern_rules.judge before (codes "m" ∷ w ∷ a ∷ firsts) (codes "t:") ≡ None
+      → (rules_with constants).judge before (codes "m" ∷ w ∷ a ∷ firsts) (codes "t:") ≡ None
   t_judged firsts first = elim first.mark [
-    | inl none ↦ rw (m_role before w a firsts, no_w, no_a, none) refl
-    | inr some ↦ rw (m_role before w a firsts, no_w, no_a, some) refl
+    | inl none ↦ rw (m_role before (codes "m") w a firsts refl, no_w, no_a, none) refl
+    | inr some ↦ rw (m_role before (codes "m") w a firsts refl, no_w, no_a, some) refl
   ]
 
   t_mark : (firsts list : Words) → AreUnmarked list
@@ -253,15 +324,15 @@ module _ (before : Lines) (w a : List ℕ) (no_w : mark_of w ≡ None) (no_a : m
       ∙ rw first.none ((plain (Some T)).1 is_second)
 
   second_judged : (firsts list : Words) (word : List ℕ) → AreFirst firsts → AreUnmarked list
-      → pattern_rules.judge before (codes "m" ∷ w ∷ a ∷ (firsts ++ codes "t:" ∷ list)) word
-      ≡ member_name (names_at is_defining before []) (measured_in before) list word
+      → (rules_with constants).judge before (codes "m" ∷ w ∷ a ∷ (firsts ++ codes "t:" ∷ list)) word
+      ≡ term_word constants (names_at is_defining before []) (measured_in before) list word
   second_judged firsts list word first plain =
       let words = firsts ++ codes "t:" ∷ list in
       let here = codes "m" ∷ w ∷ a ∷ words in
       let mark = t_last firsts list plain in
       let second = second_list firsts list first plain in
       rw (
-        m_role before w a words,
+        m_role before (codes "m") w a words refl,
         head_at before here,
         mark_at before (codes "m") (w ∷ a ∷ words),
         mark,
@@ -269,53 +340,61 @@ module _ (before : Lines) (w a : List ℕ) (no_w : mark_of w ≡ None) (no_a : m
       ) refl
 
   second_end : (firsts list : Words) → AreUnmarked list
-      → pattern_rules.lacks before (codes "m" ∷ w ∷ a ∷ (firsts ++ codes "t:" ∷ list)) ≡ None
+      → (rules_with constants).lacks before (codes "m" ∷ w ∷ a ∷ (firsts ++ codes "t:" ∷ list))
+      ≡ None
   second_end firsts list plain =
       let mark = t_last firsts list plain in
-      rw (m_role before w a (firsts ++ codes "t:" ∷ list), mark) refl
+      rw (m_role before (codes "m") w a (firsts ++ codes "t:" ∷ list) refl, mark) refl
 
-  first_clean : (ns : List Name) (qs : List ℕ) (tail : Words) → AreNames ns
-      → AreMembers ns (names_at is_defining before []) (measured_in before) qs
-      → CleanWords pattern_rules before (codes "m" ∷ w ∷ a ∷ marked (codes "s:") ns qs) tail
-      → CleanWords pattern_rules before (codes "m" ∷ w ∷ a ∷ []) (marked (codes "s:") ns qs ++ tail)
-  first_clean ns [] tail valid are rest = rest
-  first_clean ns (q ∷ qs) tail valid are rest = (
-    s_judged,
-    members_clean ns (names_at is_defining before []) (measured_in before) before
-        (codes "m" ∷ w ∷ a ∷ codes "s:" ∷ []) [] (q ∷ qs) tail valid are
-        (λ front r below lt. first_judged (map (name_at ns) front) (name_at ns r)
-        (names_unmarked ns front valid below)
-        (name_no_mark (name_at ns r) (is_name-name_at ns r valid lt)))
-        rest,
-  )
+  -- a signal behind its mark, where there is one
+  first_clean : (words tail : Words)
+      → (CleanWords (rules_with constants) before (codes "m" ∷ w ∷ a ∷ codes "s:" ∷ words) tail
+      → CleanWords (rules_with constants) before (codes "m" ∷ w ∷ a ∷ codes "s:" ∷ [])
+      (words ++ tail))
+      → CleanWords (rules_with constants) before
+      (codes "m" ∷ w ∷ a ∷ marked (codes "s:") words) tail
+      → CleanWords (rules_with constants) before (codes "m" ∷ w ∷ a ∷ [])
+      (marked (codes "s:") words ++ tail)
+  first_clean [] tail signal rest = rest
+  first_clean (word ∷ words) tail signal rest = (s_judged, signal rest)
 
-  second_clean : (ns : List Name) (firsts : Words) (qs : List ℕ) → AreNames ns → AreFirst firsts
-      → AreMembers ns (names_at is_defining before []) (measured_in before) qs
-      → CleanWords pattern_rules before (codes "m" ∷ w ∷ a ∷ firsts) (marked (codes "t:") ns qs)
-  second_clean ns firsts [] valid first are = firsts_end firsts first
-  second_clean ns firsts (q ∷ qs) valid first are =
+  second_clean : (firsts words : Words) → AreFirst firsts
+      → CleanWords (rules_with constants) before
+      (codes "m" ∷ w ∷ a ∷ (firsts ++ codes "t:" ∷ [])) words
+      → CleanWords (rules_with constants) before (codes "m" ∷ w ∷ a ∷ firsts)
+      (marked (codes "t:") words)
+  second_clean firsts [] first clean = firsts_end firsts first
+  second_clean firsts (word ∷ words) first clean = (t_judged firsts first, clean)
+
+  signals_clean : (ns : List Name) (s t : Signal) → AreNames ns
+      → AreMembers ns (names_at is_defining before []) (measured_in before) s.members
+      → AreMembers ns (names_at is_defining before []) (measured_in before) t.members
+      → (s.constant ≡ true → constants ≡ true) → (t.constant ≡ true → constants ≡ true)
+      → CleanWords (rules_with constants) before (codes "m" ∷ w ∷ a ∷ [])
+      (marked (codes "s:") (signal_words ns s) ++ marked (codes "t:") (signal_words ns t))
+  signals_clean ns s t valid are_s are_t s_permits t_permits =
+      let names = names_at is_defining before [] in
+      let plain = signal_unmarked ns s.members s.constant valid are_s.below in
+      let firsts = marked (codes "s:") (signal_words ns s) in
+      let first = first_words (signal_words ns s) plain in
+      let seconds = signal_words ns t in
       let here = codes "m" ∷ w ∷ a ∷ (firsts ++ codes "t:" ∷ []) in
       let along : (list : Words) → here ++ list
       ≡ codes "m" ∷ w ∷ a ∷ (firsts ++ codes "t:" ∷ list) =
       λ list. ap (λ ws. codes "m" ∷ w ∷ a ∷ ws) (append_assoc firsts (codes "t:" ∷ []) list) in
-      let all = names_unmarked ns (q ∷ qs) valid are.below in
-      let ends : CleanWords pattern_rules before (here ++ map (name_at ns) (q ∷ qs)) [] =
-      ap (λ (words : Words). pattern_rules.lacks before words) (along (map (name_at ns) (q ∷ qs)))
-      ∙ second_end firsts (map (name_at ns) (q ∷ qs)) all in
-      let members = members_clean ns (names_at is_defining before []) (measured_in before) before
-      here []
-      (q ∷ qs) [] valid are (λ front r below lt.
-      ap (λ (words : Words). pattern_rules.judge before words (name_at ns r))
-      (along (map (name_at ns) front))
-      ∙ second_judged firsts (map (name_at ns) front) (name_at ns r) first
-      (names_unmarked ns front valid below))
-      ends in (
-        t_judged firsts first,
-        subst (λ (words : Words). CleanWords pattern_rules before words (map (name_at ns) (q ∷ qs)))
-            (append-nil here)
-            (subst (λ (words : Words). CleanWords pattern_rules before (here ++ []) words)
-            (append-nil (map (name_at ns) (q ∷ qs))) members),
-      )
+      let ends : CleanWords (rules_with constants) before (here ++ seconds) [] =
+      ap (λ (words : Words). (rules_with constants).lacks before words) (along seconds)
+      ∙ second_end firsts seconds (signal_unmarked ns t.members t.constant valid are_t.below) in
+      let second = signal_clean constants ns names (measured_in before) before here
+      (λ list word plain' none.
+      ap (λ (words : Words). (rules_with constants).judge before words word) (along list)
+      ∙ second_judged firsts list word first plain')
+      t.members t.constant [] valid are_t t_permits ends in
+      first_clean (signal_words ns s) (marked (codes "t:") seconds)
+      (signal_clean constants ns names (measured_in before) before
+      (codes "m" ∷ w ∷ a ∷ codes "s:" ∷ []) first_judged s.members s.constant
+      (marked (codes "t:") seconds) valid are_s s_permits)
+      (second_clean firsts seconds first (rw (append-nil seconds) at second))
 
 -- a command that may stand there
 new_clean : (ns : List Name) (m : ℕ) → AreNames ns → m < length ns
@@ -337,19 +416,26 @@ prepared_one : (q : ℕ) → prepared (Prep q ∷ []) ≡ 1
 unfolding prepared
 prepared_one q = refl
 
-pub command_clean : (half : ℕ) (ns : List Name) (inputs : ℕ) (before : Lines) (done : List Command)
-    (c : Command) → AreThere ns inputs before done → IsTrue (is_permitted half)
-    → inputs + prepared (done ++ c ∷ []) ≤ length ns → length done < 262144
-    → FitsBehind inputs done c → IsTyped half c
-    → CleanWords pattern_rules before [] (command_line ns c)
-command_clean half ns inputs before done (Prep q) h permitted within room fits typed =
+pub or_first : (a b : Bool) → a ≡ true → (a || b) ≡ true
+or_first true b e = refl
+or_first false b e = absurd (cc e)
+
+pub command_clean : (constants : Bool) (half : ℕ) (ns : List Name) (inputs : ℕ) (before : Lines)
+    (done : List Command) (c : Command) → AreThere ns inputs before done
+    → IsTrue (is_permitted half) → inputs + prepared (done ++ c ∷ []) ≤ length ns
+    → length done < 262144 → FitsBehind inputs done c → IsTyped half c
+    → (has_constant c ≡ true → constants ≡ true)
+    → CleanWords (rules_with constants) before [] (command_line ns c)
+command_clean constants half ns inputs before done (Prep q) h permitted within room fits typed
+    permits =
     let more = prepared-append done (Prep q ∷ []) in
     let one : prepared (Prep q ∷ []) ≡ 1 = prepared_one q in
     let lt : inputs + prepared done < length ns = omega (arith, within, more, one) in
     let new = new_clean ns (inputs + prepared done) h.names lt in
     let record_word = record_clean ns inputs before done (codes "n") h room refl in
     (record_word, (rw (h.after.defined, fits) new, refl))
-command_clean half ns inputs before done (Ent q r) h permitted within room fits typed =
+command_clean constants half ns inputs before done (Ent q r) h permitted within room fits typed
+    permits =
     let top = h.within in
     let lq = fits.0.is_there in
     let lr = fits.1.is_there in
@@ -358,7 +444,8 @@ command_clean half ns inputs before done (Ent q r) h permitted within room fits 
       record_clean ns inputs before done (codes "e") h room refl,
       (still_clean ns inputs before done q h fits.0, (rw (second, apart) refl, refl)),
     )
-command_clean half ns inputs before done (Meas q a s t) h permitted within room fits typed =
+command_clean constants half ns inputs before done (Meas q a s t) h permitted within room fits typed
+    permits =
     let top = h.within in
     let lq = fits.0.is_there in
     let no_w = name_no_mark (name_at ns q) (is_name-name_at ns q h.names (omega arith)) in
@@ -371,33 +458,31 @@ command_clean half ns inputs before done (Meas q a s t) h permitted within room 
         still_clean ns inputs before done q h fits.0,
         (
           rw angle refl,
-          first_clean before (name_at ns q) (decimal a) no_w no_a ns s.members
-              (marked (codes "t:") ns t.members) h.names first
-              (second_clean before (name_at ns q) (decimal a) no_w no_a ns
-              (marked (codes "s:") ns s.members) t.members h.names
-              (first_words ns s.members h.names first.below) second),
+          signals_clean constants before (name_at ns q) (decimal a) no_w no_a ns s t h.names first
+              second (λ e. permits (or_first s.constant t.constant e))
+              (λ e. permits (or_right s.constant t.constant e)),
         ),
       ),
     )
-command_clean half ns inputs before done (FixX q s) h permitted within room fits typed =
+command_clean constants half ns inputs before done (FixX q s) h permitted within room fits typed
+    permits =
     let are = signal_members ns inputs before done s h fits.1 in
     let w = name_at ns q in
-    let list = map (name_at ns) s.members in
-    let members = members_clean ns (names_at is_defining before []) (measured_in before) before
-    (codes "x" ∷ w ∷ []) [] s.members [] h.names are
-    (λ front r below lt. x_judged ns before w (name_at ns r) (map (name_at ns) front))
-    (x_lacks before w list) in (
+    let signal = signal_clean constants ns (names_at is_defining before []) (measured_in before)
+    before (codes "x" ∷ w ∷ []) (λ list word plain none. x_judged constants before w word list)
+    s.members s.constant [] h.names are permits
+    (x_lacks constants before w (signal_words ns s)) in (
       record_clean ns inputs before done (codes "x") h room refl,
-      (still_clean ns inputs before done q h fits.0, rw (append-nil list) at members),
+      (still_clean ns inputs before done q h fits.0, rw (append-nil (signal_words ns s)) at signal),
     )
-command_clean half ns inputs before done (FixZ q s) h permitted within room fits typed =
+command_clean constants half ns inputs before done (FixZ q s) h permitted within room fits typed
+    permits =
     let are = signal_members ns inputs before done s h fits.1 in
     let w = name_at ns q in
-    let list = map (name_at ns) s.members in
-    let members = members_clean ns (names_at is_defining before []) (measured_in before) before
-    (codes "z" ∷ w ∷ []) [] s.members [] h.names are
-    (λ front r below lt. z_judged ns before w (name_at ns r) (map (name_at ns) front))
-    (z_lacks before w list) in (
+    let signal = signal_clean constants ns (names_at is_defining before []) (measured_in before)
+    before (codes "z" ∷ w ∷ []) (λ list word plain none. z_judged constants before w word list)
+    s.members s.constant [] h.names are permits
+    (z_lacks constants before w (signal_words ns s)) in (
       record_clean ns inputs before done (codes "z") h room refl,
-      (still_clean ns inputs before done q h fits.0, rw (append-nil list) at members),
+      (still_clean ns inputs before done q h fits.0, rw (append-nil (signal_words ns s)) at signal),
     )

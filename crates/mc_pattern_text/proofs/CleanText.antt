@@ -3,7 +3,7 @@ use Rattle.std.proofs.Common.{◌≡◌, ℕ, zero, suc, ◌+◌, ◌<◌, ◌�
 use Rattle.std.proofs.Common.{List, [], ◌∷◌, ◌++◌, length, map, take, drop, codes, refl, sym, ap}
 use Rattle.std.proofs.Common.{◌∙◌, append_assoc, length-append, arith, eq-eqb, ne_eqb, nat_eq}
 use Rattle.std.proofs.Common.{nat_le, Option, Some, IsTrue, if◌then◌else◌, cond, count_by, get_or}
-use Rattle.std.specs.List.{filter_map, flat_map, list_all, IsDistinct}
+use Rattle.std.specs.List.{filter_map, flat_map, list_all, list_any, IsDistinct}
 use Rattle.std.proofs.lemmas.Bool.{cases_Bool}
 use Rattle.std.proofs.lemmas.Bool.Decides.{nat_tests}
 use Rattle.std.proofs.lemmas.List.{append-nil, map-append, length-take-le, take-append-drop}
@@ -13,7 +13,7 @@ use mathlib.Core.Logic.{inl, inr}
 use Rattle.mc_model.specs.Names.{Name, AreNames, name_eq, is_name}
 use Rattle.mc_model.specs.Numbers.{is_member}
 use Rattle.mc_model.specs.Pattern.{Command, Prep, Ent, Meas, FixX, FixZ, Pattern, measured_by}
-use Rattle.mc_model.specs.Pattern.{measured_order}
+use Rattle.mc_model.specs.Pattern.{measured_order, has_constant}
 use Rattle.mc_model.specs.Steps.{is_permitted}
 use Rattle.mc_model.specs.Valid.{FitsBehind, IsValid, measured, prepared}
 use Rattle.mc_model.proofs.ValidLemmas.{prepared-append}
@@ -34,13 +34,14 @@ use Rattle.mc_text.proofs.Naming.{distinct_front}
 use Rattle.mc_pattern_text.specs.Roles.{may_follow, role_of, role_in, follows_command, is_defining}
 use Rattle.mc_pattern_text.specs.Roles.{is_measuring, is_output}
 use Rattle.mc_pattern_text.specs.Value.{spelled_command, spelled_commands}
-use Rattle.mc_pattern_text.specs.Judge.{measured_in, is_settled, pattern_rules}
-use Rattle.mc_pattern_text.specs.Canonical.{command_line, pattern_lines}
+use Rattle.mc_pattern_text.specs.Judge.{measured_in, is_settled, rules_with, pattern_rules}
+use Rattle.mc_pattern_text.specs.Judge.{permits_constants}
+use Rattle.mc_pattern_text.specs.Canonical.{pattern_version, command_line, pattern_lines}
 use Rattle.mc_pattern_text.proofs.NamedCommands.{measured_there}
 use Rattle.mc_pattern_text.proofs.CleanCommands.{IsAfter, AreThere, front_distinct, front_more}
 use Rattle.mc_pattern_text.proofs.CleanCommands.{known_clean, measured_held, held_written}
-use Rattle.mc_pattern_text.proofs.CleanLines.{command_clean}
-use Rattle.mc_pattern_text.proofs.Parts.{all_front, and_both, last_head-line}
+use Rattle.mc_pattern_text.proofs.CleanLines.{command_clean, or_first}
+use Rattle.mc_pattern_text.proofs.Parts.{all_front, and_both, or_right, last_head-line}
 
 -- the lines of one command more
 after_by : (ns : List Name) (inputs : ℕ) (before : Lines) (done : List Command) (c : Command)
@@ -118,17 +119,19 @@ no_end ns (Meas q a s t) = refl
 no_end ns (FixX q s) = refl
 no_end ns (FixZ q s) = refl
 
-commands_clean : (half : ℕ) (ns : List Name) (inputs : ℕ) (before : Lines) (done cs : List Command)
-    (tail : Lines) → IsAfter ns inputs before done → AreNames ns → IsTrue (is_permitted half)
-    → IsValid inputs (done ++ cs) → inputs + prepared (done ++ cs) ≤ length ns
+commands_clean : (constants : Bool) (half : ℕ) (ns : List Name) (inputs : ℕ) (before : Lines)
+    (done cs : List Command) (tail : Lines) → IsAfter ns inputs before done → AreNames ns
+    → IsTrue (is_permitted half) → IsValid inputs (done ++ cs) → inputs + prepared (done ++ cs) ≤ length ns
     → length (done ++ cs) ≤ 262144 → AllTyped half cs
+    → (list_any has_constant cs ≡ true → constants ≡ true)
     → ((before' : Lines) → IsAfter ns inputs before' (done ++ cs)
-    → Clean pattern_rules before' tail)
-    → Clean pattern_rules before (map (command_line ns) cs ++ tail)
-commands_clean half ns inputs before done [] tail h names permitted valid within few typed rest =
+    → Clean (rules_with constants) before' tail)
+    → Clean (rules_with constants) before (map (command_line ns) cs ++ tail)
+commands_clean constants half ns inputs before done [] tail h names permitted valid within few typed
+    permits rest =
     rest before (rw (append-nil done) h)
-commands_clean half ns inputs before done (c ∷ cs) tail h names permitted valid within few typed
-    rest =
+commands_clean constants half ns inputs before done (c ∷ cs) tail h names permitted valid within few
+    typed permits rest =
     let next : (done ++ c ∷ []) ++ cs ≡ done ++ (c ∷ cs) = append_assoc done (c ∷ []) cs in
     let fits = valid.at done c cs refl in
     let whole = prepared-append done (c ∷ cs) in
@@ -144,14 +147,17 @@ commands_clean half ns inputs before done (c ∷ cs) tail h names permitted vali
       seen = λ k is. measured_there inputs done (c ∷ cs) k valid is;
     } in
     more before (command_line ns c) (map (command_line ns) cs ++ tail)
-    (command_clean half ns inputs before done c there permitted here room fits typed.0)
+    (command_clean constants half ns inputs before done c there permitted here room fits typed.0
+    (λ e. permits (or_first (has_constant c) (list_any has_constant cs) e)))
     (no_end ns c)
-    (commands_clean half ns inputs (before ++ command_line ns c ∷ []) (done ++ c ∷ []) cs tail
-    (command_after ns inputs before done c h fits here) names permitted (rw next valid)
-    (rw next within) (rw next few) typed.1 (λ before' after. rest before' (rw next at after)))
+    (commands_clean constants half ns inputs (before ++ command_line ns c ∷ []) (done ++ c ∷ []) cs
+    tail (command_after ns inputs before done c h fits here) names permitted (rw next valid)
+    (rw next within) (rw next few) typed.1
+    (λ e. permits (or_right (has_constant c) (list_any has_constant cs) e))
+    (λ before' after. rest before' (rw next at after)))
 
 -- the inputs
-role_at : (before : Lines) (h : List ℕ) (list : Words)
+pub role_at : (before : Lines) (h : List ℕ) (list : Words)
     → role_of (point_of before (h ∷ list))
     ≡ role_in (head_of h) (point_of before (h ∷ list)).count (point_of before (h ∷ list)).mark
 role_at before h list =
@@ -161,22 +167,28 @@ role_at before h list =
           (h ∷ list),
     ) refl
 
-names_here : (test : Option Head → Bool) (before : Lines) (h : List ℕ) (ws : Words)
+pub names_here : (test : Option Head → Bool) (before : Lines) (h : List ℕ) (ws : Words)
     → names_at test before (h ∷ ws)
     ≡ names_at test before [] ++ (if test (head_of h) then ws else [])
 names_here test before h ws = rw (append-nil (flat_map (names_in test) before)) refl
 
-inputs_clean : (ws ps : List Name) → list_all is_name ps ≡ true → IsDistinct name_eq (ws ++ ps)
-    → length (ws ++ ps) ≤ 256 → CleanWords pattern_rules [] (codes "in" ∷ ws) ps
-inputs_clean ws [] named distinct few = rw (role_at [] (codes "in") ws) refl
-inputs_clean ws (p ∷ ps) named distinct few =
+pub names_stay : (test : Option Head → Bool) (before : Lines) (h : List ℕ) (words : Words)
+    → test (head_of h) ≡ false → names_at test before (h ∷ words) ≡ names_at test before []
+names_stay test before h words e =
+    names_here test before h words ∙ rw e (append-nil (names_at test before []))
+
+inputs_clean : (constants : Bool) (ws ps : List Name) → list_all is_name ps ≡ true
+    → IsDistinct name_eq (ws ++ ps) → length (ws ++ ps) ≤ 256
+    → CleanWords (rules_with constants) [] (codes "in" ∷ ws) ps
+inputs_clean constants ws [] named distinct few = rw (role_at [] (codes "in") ws) refl
+inputs_clean constants ws (p ∷ ps) named distinct few =
     let both = and_both (is_name p) (list_all is_name ps) named in
     let free = distinct_front ws p ps distinct in
     let long = length-append ws (p ∷ ps) in
     let room : nat_le 256 (length ws) ≡ false = late (length ws) (omega (arith, long, few)) in
     let next : (ws ++ p ∷ []) ++ ps ≡ ws ++ (p ∷ ps) = append_assoc ws (p ∷ []) ps in (
       rw (role_at [] (codes "in") ws, both.0, free, room) refl,
-      inputs_clean (ws ++ p ∷ []) ps both.1 (rw next distinct) (rw next few),
+      inputs_clean constants (ws ++ p ∷ []) ps both.1 (rw next distinct) (rw next few),
     )
   where
     late : (n : ℕ) → n < 256 → nat_le 256 n ≡ false
@@ -224,11 +236,12 @@ settled_by : (t s : Bool) → (t ≡ false → s ≡ true) → (t || s) ≡ true
 settled_by true s due = refl
 settled_by false s due = due refl
 
-outputs_clean : (ns : List Name) (inputs : ℕ) (before : Lines) (done : List Command)
-    (listed qs : List ℕ) → AreThere ns inputs before done → inputs + prepared done ≡ length ns
+outputs_clean : (constants : Bool) (ns : List Name) (inputs : ℕ) (before : Lines)
+    (done : List Command) (listed qs : List ℕ) → AreThere ns inputs before done → inputs + prepared done ≡ length ns
     → AreDue ns done (listed ++ qs)
-    → CleanWords pattern_rules before (codes "out" ∷ map (name_at ns) listed) (map (name_at ns) qs)
-outputs_clean ns inputs before done listed [] h whole due =
+    → CleanWords (rules_with constants) before (codes "out" ∷ map (name_at ns) listed)
+    (map (name_at ns) qs)
+outputs_clean constants ns inputs before done listed [] h whole due =
     let list = map (name_at ns) listed in
     let all : take (inputs + prepared done) ns ≡ ns = rw whole (take_whole ns) in
     let due' = rw (append-nil listed) at due in
@@ -260,7 +273,7 @@ outputs_clean ns inputs before done listed [] h whole due =
     at_default [] q d lt = absurd (omega arith)
     at_default (x ∷ xs) zero d lt = refl
     at_default (x ∷ xs) (suc q) d lt = at_default xs q d (omega arith)
-outputs_clean ns inputs before done listed (q ∷ qs) h whole due =
+outputs_clean constants ns inputs before done listed (q ∷ qs) h whole due =
     let list = map (name_at ns) listed in
     let lt : q < length ns = below_by (length ns) (listed ++ q ∷ qs) q due.below
     (counts_member (listed ++ q ∷ qs) q (count_last q listed qs)) in
@@ -274,7 +287,8 @@ outputs_clean ns inputs before done listed (q ∷ qs) h whole due =
     let known = known_clean ns inputs before done q h (omega (arith, whole, lt)) in
     let held = measured_held ns inputs before done q h (omega (arith, whole, lt)) ∙ live in
     let next : (listed ++ q ∷ []) ++ qs ≡ listed ++ (q ∷ qs) = append_assoc listed (q ∷ []) qs in
-    let rest = outputs_clean ns inputs before done (listed ++ q ∷ []) qs h whole (rw next due) in (
+    let rest = outputs_clean constants ns inputs before done (listed ++ q ∷ []) qs h whole
+    (rw next due) in (
       rw (
         role_at before (codes "out") list,
         names_here is_output before (codes "out") list,
@@ -311,8 +325,10 @@ inputs_after ns inputs = record {
 }
 
 pub pattern_clean : (half : ℕ) (p : Pattern) → IsPattern half p → IsTrue (is_permitted half)
-    → Clean pattern_rules [] (pattern_lines p)
+    → Clean (pattern_rules (pattern_version p)) [] (pattern_lines p)
 pattern_clean half p h permitted =
+    let constants = permits_constants (pattern_version p) in
+    let permits : list_any has_constant p.commands ≡ true → constants ≡ true = λ e. rw e refl in
     let ns = p.names in
     let valid = h.valid.names in
     let ins = take p.inputs ns in
@@ -327,13 +343,13 @@ pattern_clean half p h permitted =
     inputs_after ns p.inputs in
     more [] (codes "in" ∷ ins) (map (command_line ns) p.commands ++ out ∷ end) (
       refl,
-      inputs_clean [] ins
+      inputs_clean constants [] ins
           (all_named p.inputs ns (list_all-from_AllPass is_name ns valid.valid)) distinct
           (omega (arith, long, few, qubits)),
     )
     refl
-    (commands_clean half ns p.inputs ((codes "in" ∷ ins) ∷ []) [] p.commands (out ∷ end) begun valid
-    permitted h.valid.commands (omega (arith, qubits)) h.few h.typed (λ before' after.
+    (commands_clean constants half ns p.inputs ((codes "in" ∷ ins) ∷ []) [] p.commands (out ∷ end)
+    begun valid permitted h.valid.commands (omega (arith, qubits)) h.few h.typed permits (λ before' after.
     let there : AreThere ns p.inputs before' p.commands = record {
       after = after;
       names = valid;
@@ -345,7 +361,7 @@ pattern_clean half p h permitted =
     let follows = last_head-line before' out in
     more before' out end (
       rw takes refl,
-      outputs_clean ns p.inputs before' p.commands [] p.outputs there (sym qubits)
+      outputs_clean constants ns p.inputs before' p.commands [] p.outputs there (sym qubits)
           (record { below = h.valid.outputs.below; once = h.valid.outputs.once }),
     )
     refl

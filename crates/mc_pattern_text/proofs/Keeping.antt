@@ -1,14 +1,16 @@
 -- What is kept of the words of a line goes on with one more word.
 use Rattle.std.proofs.Common.{◌≡◌, ℕ, zero, suc, ◌+◌, ◌<◌, List, [], ◌∷◌, ◌++◌, Bool, true, false}
-use Rattle.std.proofs.Common.{◌||◌, ◌&&◌, Option, Some, None, length, map, refl, sym, subst, ap}
-use Rattle.std.proofs.Common.{◌∙◌, arith, ◌==◌, nat_eq, ◌⊎◌, inl, inr}
-use Rattle.std.specs.List.{list_all, slice_get}
+use Rattle.std.proofs.Common.{◌||◌, Option, Some, None, length, map, refl, sym, subst, ap}
+use Rattle.std.proofs.Common.{◌∙◌, arith, ◌==◌, nat_eq, not, inl, inr}
+use Rattle.std.specs.List.{list_all, list_any, slice_get}
 use Rattle.std.proofs.lemmas.Bool.{eqb-true}
 use Rattle.std.proofs.lemmas.List.{append-nil, map-append}
-use Rattle.std.proofs.lemmas.List.Folds.{list_all-append}
+use Rattle.std.proofs.lemmas.List.Elements.{filter-append}
+use Rattle.std.proofs.lemmas.List.Folds.{list_all-append, list_any-append}
 use Rattle.mc_model.specs.Bits.{Bits}
 use Rattle.mc_model.specs.Numbers.{is_member}
 use Rattle.mc_model.specs.Names.{is_held, place_of}
+use Rattle.mc_model.specs.Signals.{Signal}
 use Rattle.mc_angle.specs.Angle.{angle_of}
 use Rattle.mc_text.specs.declared.head.Head.{Head}
 use Rattle.mc_text.specs.declared.point.Point.{Point}
@@ -21,23 +23,22 @@ use Rattle.mc_text.proofs.Numbers.{held-place, place-held}
 use Rattle.mc_text.proofs.Kept.{count_at, place-more, number_in-more, operand_at-word, name_no_mark}
 use Rattle.mc_pattern_text.specs.declared.reader.Operands.{Operands}
 use Rattle.mc_pattern_text.specs.Roles.{is_entangling, is_measuring, is_command, has_operand}
+use Rattle.mc_pattern_text.specs.Value.{is_constant, names_among}
 use Rattle.mc_pattern_text.specs.Judge.{first_signal, second_signal}
-use Rattle.mc_pattern_text.specs.Kept.{AreMarked, AreDone, IsSecond, AreOperands, Joins, Fills}
-use Rattle.mc_pattern_text.specs.Kept.{added_first, added_second}
+use Rattle.mc_pattern_text.specs.Kept.{AreMarked, IsSpelled, AreOperands}
+use Rattle.mc_pattern_text.specs.Kept.{AddsMember, AddsConstant, Joins, Fills, added_first}
+use Rattle.mc_pattern_text.specs.Kept.{added_second}
+use Rattle.mc_pattern_text.proofs.Parts.{and_both}
 use Rattle.mc_pattern_text.proofs.Under.{IsOneOrNone, first_signal-word, second_signal-word}
 use Rattle.mc_pattern_text.proofs.Under.{first_one, second_one}
 
 -- the names of a list are the same under more names
-and_first : (a b : Bool) → (a && b) ≡ true → (a ≡ true) × (b ≡ true)
-and_first true b e = (refl, e)
-and_first false b e = absurd (cc e)
-
 pub numbers_same : (names more list : List (List ℕ)) → list_all (is_held names) list ≡ true
     → (list_all (is_held (names ++ more)) list ≡ true)
     × (map (number_in (names ++ more)) list ≡ map (number_in names) list)
 numbers_same names more [] all = (refl, refl)
 numbers_same names more (w ∷ list) all =
-    let both = and_first (is_held names w) (list_all (is_held names) list) all in
+    let both = and_both (is_held names w) (list_all (is_held names) list) all in
     let place = place-held names w both.0 in
     let held = held-place (names ++ more) w place.0 (place-more names more w place.0 place.1) in
     let number = number_in-more names more w place.0 place.1 in
@@ -82,36 +83,59 @@ marked-word names list marks marks' word q are place more =
           more r ∙ sym all;
     }
 
-pub joined : (names list added : List (List ℕ)) (marks : Bits) (set set' : List ℕ) (word : List ℕ)
-    → IsOneOrNone word added → AreMarked names list (is_member set)
-    → Joins names marks set set' added → AreMarked names (list ++ added) (is_member set')
-joined names list added marks set set' word one are joins = elim one.is [
+-- the words of a signal with one more term
+pub spelled-more : (names more : List (List ℕ)) (words : Words) (signal : Signal)
+    → IsSpelled names words signal → IsSpelled (names ++ more) words signal
+spelled-more names more words signal are = record {
+  members = marked-more names more (names_among words) (is_member signal.members) are.members;
+  constant = are.constant;
+}
+
+member_spelled : (names : List (List ℕ)) (words : Words) (s s' : Signal) (word : List ℕ)
+    → IsSpelled names words s → AddsMember names s s' word
+    → IsSpelled names (words ++ word ∷ []) s'
+member_spelled names words s s' word are adds =
+    let among = filter-append (λ w. not (is_constant w)) words (word ∷ []) in
+    let all = list_any-append is_constant words (word ∷ []) in
+    let other = adds.name in
+    record {
+      members = rw (among, other)
+          (marked-word names (names_among words) (is_member s.members) (is_member s'.members) word
+          adds.number are.members adds.place adds.members);
+      constant =
+          adds.constant ∙ are.constant
+          ∙ rw (all, other) (sym (or_false false (list_any is_constant words)));
+    }
+
+constant_spelled : (names : List (List ℕ)) (words : Words) (s s' : Signal) (word : List ℕ)
+    → IsSpelled names words s → AddsConstant s s' word → IsSpelled names (words ++ word ∷ []) s'
+constant_spelled names words s s' word are adds =
+    let among = filter-append (λ w. not (is_constant w)) words (word ∷ []) in
+    let all = list_any-append is_constant words (word ∷ []) in
+    let is = adds.is in
+    record {
+      members = rw (among, is, append-nil (names_among words), adds.members) are.members;
+      constant = adds.constant ∙ rw (all, is) (or_true (list_any is_constant words));
+    }
+  where
+    or_true : (b : Bool) → true ≡ (b || true)
+    or_true true = refl
+    or_true false = refl
+
+pub joined : (names : List (List ℕ)) (words added : Words) (s s' : Signal) (word : List ℕ)
+    → IsOneOrNone word added → IsSpelled names words s → Joins names s s' added
+    → IsSpelled names (words ++ added) s'
+joined names words added s s' word one are joins = elim one.is [
   | inl none ↦
-      let joins' : set' ≡ set = rw none at joins in
-      rw (none, append-nil list, joins') are
+      let joins' : s' ≡ s = rw none at joins in
+      rw (none, append-nil words, joins') are
   | inr some ↦
       let joins' = rw some at joins in
       rw some
-      (marked-word names list (is_member set) (is_member set') word joins'.0 are joins'.1 joins'.3)
-]
-
-or_either : (a b : Bool) → (a || b) ≡ true → (a ≡ true) ⊎ (b ≡ true)
-or_either true b e = inl refl
-or_either false b e = inr e
-
-pub done_more : (names added : List (List ℕ)) (marks : Bits) (set set' : List ℕ) (word : List ℕ)
-    → IsOneOrNone word added → AreDone marks set → Joins names marks set set' added
-    → AreDone marks set'
-done_more names added marks set set' word one done joins = λ q member. elim one.is [
-  | inl none ↦
-      let joins' : set' ≡ set = rw none at joins in
-      done q (rw (← joins') member)
-  | inr some ↦
-      let joins' = rw some at joins in
-      elim (or_either (is_member set q) (nat_eq q joins'.0) (sym (joins'.3 q) ∙ member)) [
-        | inl before ↦ done q before
-        | inr same ↦ ap marks (eqb-true q joins'.0 same) ∙ joins'.2
-      ]
+      (elim joins' [
+        | inl adds ↦ member_spelled names words s s' word are adds
+        | inr adds ↦ constant_spelled names words s s' word are adds
+      ])
 ]
 
 -- the n-th word is the one that comes, or stood there before
@@ -166,11 +190,11 @@ operand_cases n test before here p word P few at comes stood a e =
         let within' : n + 1 < p.count = rw at within in
         stood a within' is
 
-pub operands_more : {half : ℕ} (names more : List (List ℕ)) (marks : Bits) (o o' : Operands half)
+pub operands_more : {half : ℕ} (names more : List (List ℕ)) (o o' : Operands half)
     (before : Lines) (here : Words) (p : Point) (word : List ℕ) → p ≡ point_of before here
-    → AreOperands names marks o here → Fills (names ++ more) marks o o' p word
-    → AreOperands (names ++ more) marks o' (here ++ word ∷ [])
-operands_more {half} names more marks o o' before here p word at are fills =
+    → AreOperands names o here → Fills (names ++ more) o o' p word
+    → AreOperands (names ++ more) o' (here ++ word ∷ [])
+operands_more {half} names more o o' before here p word at are fills =
     let first = first_signal-word before here p word at are.unmarked in
     let second = second_signal-word before here p word at are.unmarked in
     let same : 1 < p.count → o'.first ≡ o.first = λ later. fills.same_first (λ z. omega arith) in
@@ -178,35 +202,21 @@ operands_more {half} names more marks o o' before here p word at are fills =
       place = operand_cases 0 is_command before here p word
           (λ a. place_of (names ++ more) a ≡ Some o'.first) (omega arith) at fills.place
           (λ a later is. rw (same later) (place-more names more a o.first (are.place a is)));
-      live = operand_cases 0 has_operand before here p word (λ a. marks o'.first ≡ false)
-          (omega arith) at fills.live (λ a later is. rw (same later) (are.live a is));
       unmarked = operand_cases 0 has_operand before here p word (λ a. mark_of a ≡ None)
           (omega arith) at (λ one gate. name_no_mark word (fills.name one gate))
           (λ a later is. are.unmarked a is);
       second = operand_cases 1 is_entangling before here p word
-          (λ b. IsSecond (names ++ more) marks o'.first o'.second b) (omega arith) at
-          (λ two gate. rw (same (omega arith)) (fills.second two gate))
+          (λ b. place_of (names ++ more) b ≡ Some o'.second) (omega arith) at fills.second
           (λ b later is.
-          let was = are.second b is in
           let same_second : o'.second ≡ o.second = fills.same_second (λ z. omega arith) in
-          rw (same (omega arith), same_second) (record {
-            place = place-more names more b o.second was.place;
-            live = was.live;
-            apart = was.apart;
-          }));
+          rw same_second (place-more names more b o.second (are.second b is)));
       angle = operand_cases 1 is_measuring before here p word (λ b. o'.angle ≡ angle_of half b)
           (omega arith) at fills.angle
           (λ b later is. fills.same_angle (λ z. omega arith) ∙ are.angle b is);
       s = rw first
-          (joined (names ++ more) (first_signal here) (added_first p word) marks o.s o'.s word
-          (first_one p word)
-          (marked-more names more (first_signal here) (is_member o.s) are.s) fills.s);
+          (joined (names ++ more) (first_signal here) (added_first p word) o.s o'.s word
+          (first_one p word) (spelled-more names more (first_signal here) o.s are.s) fills.s);
       t = rw second
-          (joined (names ++ more) (second_signal here) (added_second p word) marks o.t o'.t word
-          (second_one p word)
-          (marked-more names more (second_signal here) (is_member o.t) are.t) fills.t);
-      s_done = done_more (names ++ more) (added_first p word) marks o.s o'.s word (first_one p word)
-          are.s_done fills.s;
-      t_done = done_more (names ++ more) (added_second p word) marks o.t o'.t word
-          (second_one p word) are.t_done fills.t;
+          (joined (names ++ more) (second_signal here) (added_second p word) o.t o'.t word
+          (second_one p word) (spelled-more names more (second_signal here) o.t are.t) fills.t);
     }

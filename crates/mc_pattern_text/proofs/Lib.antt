@@ -3,21 +3,14 @@ pub mod NamedCommands
 pub mod Printing
 pub mod RisingSets
 pub mod NamedSignals
-mod ChangeMembers
-mod ChangeKeeping
-mod ChangeLines
-mod ChangeOrder
-pub mod NoLimits
-mod ChangeReading
-mod ChangePrinting
-mod ChangeReadBack
 pub mod Marked
+pub mod Terms
 pub mod Under
 pub mod Keeping
+pub mod LineOrder
 pub mod KeepingWord
 pub mod Sets
 pub mod Made
-pub mod MadeLine
 pub mod KeepingLine
 pub mod Spelling
 pub mod Starting
@@ -25,3 +18,8 @@ mod CleanCommands
 mod CleanLines
 mod CleanText
 mod ReadBack
+pub mod CleanSections
+pub mod GoodTerms
+pub mod MadeCommands
+pub mod SoundLines
+pub mod SoundPatterns

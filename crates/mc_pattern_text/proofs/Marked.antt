@@ -13,13 +13,11 @@ use Rattle.mc_model.specs.Numbers.{is_member}
 use Rattle.mc_model.specs.Names.{name_eq, is_held, place_of}
 use Rattle.mc_names.specs.Stored.{name_eq-true}
 use Rattle.mc_text.specs.declared.fault.Fault.TheVariants.{Measured, SameOperand, ListedTwice}
-use Rattle.mc_text.specs.declared.fault.Fault.TheVariants.{NotMeasured}
 use Rattle.mc_text.specs.Judged.{fault}
 use Rattle.mc_text.specs.Rules.{known_name, number_in, AreNumbers}
 use Rattle.mc_text.proofs.Numbers.{listed-number, place-same}
 use Rattle.mc_text.proofs.Listed.{place_at}
 use Rattle.mc_pattern_text.specs.Judge.{is_settled, still_name, second_name, output_name}
-use Rattle.mc_pattern_text.specs.Judge.{member_name}
 use Rattle.mc_pattern_text.specs.Kept.{AreMarked, IsOperand}
 
 pub place-below : (names : List (List ℕ)) (a : List ℕ) (q : ℕ) → place_of names a ≡ Some q
@@ -105,34 +103,6 @@ output_name_clean names measured listed outputs word q are still e free =
     let held : is_held listed word ≡ false =
     sym (numbered-name names listed outputs word q are e) ∙ free in
     rw (still, held) refl
-
--- a member of a signal
-pub member_name_twice : (names measured list : List (List ℕ)) (set : Bits) (word : List ℕ) (q : ℕ)
-    → AreMarked names list set → known_name names word ≡ None → place_of names word ≡ Some q
-    → set q ≡ true → member_name names measured list word ≡ Some (fault ListedTwice)
-member_name_twice names measured list set word q are known e member =
-    let held : is_held list word ≡ true = sym (marked-name names list set word q are e) ∙ member in
-    rw (known, held) refl
-
-pub member_name_early : (names measured list : List (List ℕ)) (set marks : Bits) (word : List ℕ)
-    (q : ℕ) → AreMarked names list set → AreMarked names measured marks
-    → known_name names word ≡ None → place_of names word ≡ Some q → set q ≡ false
-    → marks q ≡ false → member_name names measured list word ≡ Some (fault NotMeasured)
-member_name_early names measured list set marks word q are done known e free unmarked =
-    let new : is_held list word ≡ false = sym (marked-name names list set word q are e) ∙ free in
-    let not_yet : is_held measured word ≡ false =
-    sym (marked-name names measured marks word q done e) ∙ unmarked in
-    rw (known, new, not_yet) refl
-
-pub member_name_clean : (names measured list : List (List ℕ)) (set marks : Bits) (word : List ℕ)
-    (q : ℕ) → AreMarked names list set → AreMarked names measured marks
-    → known_name names word ≡ None → place_of names word ≡ Some q → set q ≡ false
-    → marks q ≡ true → member_name names measured list word ≡ None
-member_name_clean names measured list set marks word q are done known e free marked =
-    let new : is_held list word ≡ false = sym (marked-name names list set word q are e) ∙ free in
-    let there : is_held measured word ≡ true =
-    sym (marked-name names measured marks word q done e) ∙ marked in
-    rw (known, new, there) refl
 
 -- a name that goes behind distinct ones has the next number
 pub place-last : (names : List (List ℕ)) (word : List ℕ) → IsDistinct name_eq (names ++ word ∷ [])

@@ -1,7 +1,7 @@
 -- Parts of lists, and members of lists of numbers.
 use Rattle.std.proofs.Common.{◌≡◌, ℕ, zero, suc, ◌<◌, Bool, true, false, ◌&&◌, ◌||◌, All, List, []}
-use Rattle.std.proofs.Common.{◌∷◌, ◌++◌, map, take, refl, ap, arith, length-append, eq-eqb, nat_eq}
-use Rattle.std.proofs.Common.{Option, Some, None, slice_get}
+use Rattle.std.proofs.Common.{◌∷◌, ◌++◌, take, refl, ap, arith, length-append, eq-eqb, nat_eq}
+use Rattle.std.proofs.Common.{Option, Some, None, slice_get, ◌⊎◌, inl, inr}
 use Rattle.std.specs.List.{AllByRecursion}
 use Rattle.std.proofs.lemmas.List.{get_or_append_left}
 use Rattle.std.proofs.lemmas.List.Elements.{All-from_recursion}
@@ -16,6 +16,10 @@ pub and_both : (a b : Bool) → (a && b) ≡ true → (a ≡ true) × (b ≡ tru
 and_both true b e = (refl, e)
 and_both false b e = absurd (cc e)
 
+pub or_either : (a b : Bool) → (a || b) ≡ true → (a ≡ true) ⊎ (b ≡ true)
+or_either true b e = inl refl
+or_either false b e = inr e
+
 pub or_right : (a b : Bool) → b ≡ true → (a || b) ≡ true
 or_right true b e = refl
 or_right false b e = e
@@ -26,12 +30,6 @@ pub taken_more : {A : Type 0} (xs : List A) (i : ℕ) (x : A) → slice_get xs i
 taken_more [] i x e = absurd (cc e)
 taken_more (y ∷ ys) zero x e = let same : y ≡ x = cc e in ap (λ (z : _). z ∷ []) same
 taken_more (y ∷ ys) (suc i) x e = ap (λ (zs : List _). y ∷ zs) (taken_more ys i x e)
-
-pub get_map : {A B : Type 0} (f : A → B) (xs : List A) (i : ℕ) (x : A) → slice_get xs i ≡ Some x
-    → slice_get (map f xs) i ≡ Some (f x)
-get_map f [] i x e = absurd (cc e)
-get_map f (y ∷ xs) zero x e = let same : y ≡ x = cc e in ap (λ (z : _). Some (f z)) same
-get_map f (y ∷ xs) (suc i) x e = get_map f xs i x e
 
 -- bounds of numbers
 pub all_front : (n : ℕ) (xs ys : List ℕ) → All (λ q. q < n) (xs ++ ys) → All (λ q. q < n) xs

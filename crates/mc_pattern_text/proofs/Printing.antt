@@ -1,13 +1,16 @@
 -- The canonical text, part by part.
 use Rattle.std.proofs.Common.{◌≡◌, ℕ, ◌<◌, zero, suc, List, [], ◌∷◌, ◌++◌, length, map, take}
 use Rattle.std.proofs.Common.{get_or, codes, refl, sym, subst, ap, ◌∙◌, append_assoc, arith, Some}
-use Rattle.std.proofs.Common.{◌+◌, slice_get}
+use Rattle.std.proofs.Common.{◌+◌, Bool, ◌||◌, slice_get}
+use Rattle.std.specs.List.{list_any}
 use Rattle.std.proofs.lemmas.List.{append-nil, map-append}
 use Rattle.std.proofs.lemmas.Grind.{flat_map-append}
 use Rattle.mc_write.specs.Text.{line_text, text_of, words_behind}
 use Rattle.mc_write.specs.Named.{name_at}
-use Rattle.mc_model.specs.Pattern.{Command, Pattern}
-use Rattle.mc_pattern_text.specs.Canonical.{command_line, pattern_text}
+use Rattle.mc_lex.specs.declared.kind.Kind.TheVariants as kind
+use Rattle.mc_model.specs.Pattern.{Command, Pattern, has_constant}
+use Rattle.mc_text.specs.Headers.{header_words}
+use Rattle.mc_pattern_text.specs.Canonical.{pattern_version, command_line, pattern_text}
 use Rattle.mc_pattern_text.specs.Written.{IsNamed, AreNamed}
 use Rattle.mc_pattern_text.proofs.Parts.{taken_more}
 
@@ -21,35 +24,45 @@ AreNamed-at f n (y ∷ xs) (suc i) x e lt h = AreNamed-at f n xs i x e (omega ar
 regroup : (a b c d e : List ℕ) → (((a ++ b) ++ c) ++ d) ++ e ≡ a ++ (b ++ (c ++ (d ++ e)))
 regroup a b c d e = simp append_assoc
 
-parts : (p : Pattern) →
-    ((((line_text (codes "pattern" ∷ codes "1" ∷ []) ++ line_text (codes "in" ∷ take p.inputs p.names))
+parts : (half : ℕ) (p : Pattern) →
+    ((((line_text (header_words kind.Pattern (pattern_version p) half)
+    ++ line_text (codes "in" ∷ take p.inputs p.names))
     ++ text_of (map (command_line p.names) p.commands))
     ++ line_text (codes "out" ∷ map (name_at p.names) p.outputs))
     ++ line_text (codes "end" ∷ []))
-    ≡ pattern_text p
-parts p =
+    ≡ pattern_text half p
+parts half p =
     let commands = map (command_line p.names) p.commands in
     let out = codes "out" ∷ map (name_at p.names) p.outputs in
     let end = (codes "end" ∷ []) ∷ [] in
     let last = flat_map-append line_text commands (out ∷ end) in
-    regroup (line_text (codes "pattern" ∷ codes "1" ∷ []))
+    regroup (line_text (header_words kind.Pattern (pattern_version p) half))
     (line_text (codes "in" ∷ take p.inputs p.names)) (text_of commands) (line_text out)
     (line_text (codes "end" ∷ []))
     ∙ rw last refl
 
 -- what is written, part by part
-pub record IsPrinted (p : Pattern) (headed with_inputs with_commands with_outputs whole : List ℕ) : Type 0 where
-  pub header : headed ≡ line_text (codes "pattern" ∷ codes "1" ∷ [])
+pub record IsPrinted (half : ℕ) (p : Pattern)
+    (headed with_inputs with_commands with_outputs whole : List ℕ) : Type 0 where
+  pub header : headed ≡ line_text (header_words kind.Pattern (pattern_version p) half)
   pub inputs : with_inputs ≡ headed ++ line_text (codes "in" ∷ take p.inputs p.names)
   pub commands : with_commands ≡ with_inputs ++ text_of (map (command_line p.names) p.commands)
   pub outputs : with_outputs
       ≡ with_commands ++ line_text (codes "out" ∷ map (name_at p.names) p.outputs)
   pub end : whole ≡ with_outputs ++ line_text (codes "end" ∷ [])
 
-pub printed : (p : Pattern) (headed with_inputs with_commands with_outputs whole : List ℕ) →
-    IsPrinted p headed with_inputs with_commands with_outputs whole → whole ≡ pattern_text p
-printed p headed with_inputs with_commands with_outputs whole h =
-    rw (h.end, h.outputs, h.commands, h.inputs, h.header) (parts p)
+pub printed : (half : ℕ) (p : Pattern)
+    (headed with_inputs with_commands with_outputs whole : List ℕ) →
+    IsPrinted half p headed with_inputs with_commands with_outputs whole →
+    whole ≡ pattern_text half p
+printed half p headed with_inputs with_commands with_outputs whole h =
+    rw (h.end, h.outputs, h.commands, h.inputs, h.header) (parts half p)
+
+-- the test of a list of commands, through what they are made of
+pub any_map : {A : Type 0} (f : A → Command) (xs : List A) →
+    list_any has_constant (map f xs) ≡ list_any (λ x. has_constant (f x)) xs
+any_map f [] = refl
+any_map f (x ∷ xs) = ap (λ (b : Bool). has_constant (f x) || b) (any_map f xs)
 
 pub members_more : (start : List ℕ) (f : ℕ → List ℕ) (xs : List ℕ) (i x : ℕ) →
     slice_get xs i ≡ Some x →

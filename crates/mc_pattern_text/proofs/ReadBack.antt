@@ -2,15 +2,18 @@
 use Rattle.std.proofs.Common.{◌≡◌, ℕ, zero, suc, ◌+◌, ◌<◌, ◌≤◌, Bool, true, false, All, List, []}
 use Rattle.std.proofs.Common.{◌∷◌, ◌++◌, length, map, take, codes, refl, sym, ap, ap₂, ◌∙◌}
 use Rattle.std.proofs.Common.{append_assoc, arith, Option, Some, None, IsTrue, if◌then◌else◌}
+use Rattle.std.proofs.Common.{◌==◌, ◌⊎◌, inl, inr}
+use Rattle.std.specs.Option.{option_map}
 use Rattle.std.specs.Fmt.{decimal}
 use Rattle.std.specs.List.{filter_map, flat_map, list_all, list_any}
-use Rattle.std.proofs.lemmas.Bool.{or_parts}
 use Rattle.std.proofs.lemmas.Grind.{flat_map-append}
 use Rattle.std.proofs.lemmas.List.{append-nil, length-take-le, take_all}
 use Rattle.std.proofs.lemmas.List.Elements.{filter_map-append}
 use Rattle.std.proofs.lemmas.List.Folds.{list_all-append}
 use Rattle.std.proofs.lemmas.List.Sums.{list_all-from_AllPass}
-use Rattle.mc_lex.specs.Lines.{end_of}
+use Rattle.mc_lex.specs.declared.kind.Kind.TheVariants as kind
+use Rattle.mc_lex.specs.Lines.{lines_of, end_of}
+use Rattle.mc_write.specs.Text.{text_of}
 use Rattle.mc_write.specs.Named.{name_at}
 use Rattle.mc_angle.proofs.Numerals.{angle-decimal, number-decimal}
 use Rattle.mc_model.specs.Names.{Name, AreNames, is_name}
@@ -26,7 +29,8 @@ use Rattle.mc_text.specs.declared.head.Head.{Head}
 use Rattle.mc_text.specs.declared.point.Mark.{Mark}
 use Rattle.mc_text.specs.declared.point.Mark.TheVariants.{S, T}
 use Rattle.mc_text.specs.Points.{mark_of}
-use Rattle.mc_text.specs.Judged.{Words, Lines, section_lines}
+use Rattle.mc_text.specs.Headers.{header_words, version_word, turn_words}
+use Rattle.mc_text.specs.Judged.{Words, Lines, words_of, section_lines}
 use Rattle.mc_text.specs.Lists.{names_in, names_at}
 use Rattle.mc_text.proofs.Kept.{name_no_mark}
 use Rattle.mc_text.proofs.Clean.{IsRead, written_read}
@@ -34,17 +38,18 @@ use Rattle.mc_text.proofs.Naming.{number-name_at, numbers-name_at, is_name-name_
 use Rattle.mc_text.proofs.Naming.{number_written}
 use Rattle.mc_text.proofs.Written.{is_written, is_written_line}
 use Rattle.mc_pattern_text.specs.Roles.{is_defining, is_input, is_output}
-use Rattle.mc_pattern_text.specs.Value.{is_first, is_second, words_under, spelled_m}
+use Rattle.mc_pattern_text.specs.Value.{is_first, is_second, words_under, Spelled, spelled_m}
 use Rattle.mc_pattern_text.specs.Value.{spelled_command, spelled_commands, command_by, pattern_of}
 use Rattle.mc_pattern_text.specs.Judge.{pattern_rules}
 use Rattle.mc_pattern_text.specs.Written.{IsNamed, AreNamed}
-use Rattle.mc_pattern_text.specs.Canonical.{marked, command_line, pattern_lines, pattern_text}
+use Rattle.mc_pattern_text.specs.Canonical.{pattern_version, constant_words, signal_words, marked}
+use Rattle.mc_pattern_text.specs.Canonical.{command_line, pattern_lines, pattern_text}
 use Rattle.mc_pattern_text.specs.Canonical.{behind_header}
 use Rattle.mc_pattern_text.proofs.NamedCommands.{pattern_named}
-use Rattle.mc_pattern_text.proofs.NamedSignals.{names_written, signal_back}
+use Rattle.mc_pattern_text.proofs.NamedSignals.{names_written, words_back}
 use Rattle.mc_pattern_text.proofs.CleanCommands.{IsAfter}
-use Rattle.mc_pattern_text.proofs.CleanLines.{names_unmarked, under-append, two_under}
-use Rattle.mc_pattern_text.proofs.CleanLines.{decimal_no_mark}
+use Rattle.mc_pattern_text.proofs.CleanLines.{AreUnmarked, signal_unmarked, under-append}
+use Rattle.mc_pattern_text.proofs.CleanLines.{two_under, decimal_no_mark}
 use Rattle.mc_pattern_text.proofs.CleanText.{command_after, inputs_after, pattern_clean}
 use Rattle.mc_pattern_text.proofs.Parts.{and_both}
 
@@ -57,13 +62,19 @@ front_written (suc m) (n ∷ ns) all =
     let both = and_both (is_name n) (list_all is_name ns) all in
     rw (name_written n both.0, front_written m ns both.1) refl
 
-marked_written : (mark : List ℕ) (ns : List Name) (qs : List ℕ) → is_written mark ≡ true
-    → AreNames ns
-    → All (λ q. q < length ns) qs → list_all is_written (marked mark ns qs) ≡ true
-marked_written mark ns [] written valid below = refl
-marked_written mark ns (q ∷ qs) written valid below =
-    let names = names_written ns (q ∷ qs) valid below in
-    rw (written, names) refl
+words_written : (ns : List Name) (qs : List ℕ) (b : Bool) → AreNames ns
+    → All (λ q. q < length ns) qs
+    → list_all is_written (map (name_at ns) qs ++ constant_words b) ≡ true
+words_written ns qs true valid below =
+    let names = names_written ns qs valid below in
+    list_all-append is_written (map (name_at ns) qs) (codes "!" ∷ []) ∙ rw names refl
+words_written ns qs false valid below =
+    rw (append-nil (map (name_at ns) qs)) (names_written ns qs valid below)
+
+marked_written : (mark : List ℕ) (words : Words) → is_written mark ≡ true
+    → list_all is_written words ≡ true → list_all is_written (marked mark words) ≡ true
+marked_written mark [] written all = refl
+marked_written mark (word ∷ words) written all = rw (written, all) refl
 
 name_of : (ns : List Name) (q : ℕ) → AreNames ns → q < length ns → is_written (name_at ns q) ≡ true
 name_of ns q valid lt = name_written (name_at ns q) (is_name-name_at ns q valid lt)
@@ -82,19 +93,21 @@ command_written half ns (Meas q a s t) valid permitted named typed =
     let few : half ≤ 8 = permitted_at_most half permitted in
     let turn = typed.0 in
     let number = number_written (decimal a) (number-decimal a (omega arith)).0 in
-    let firsts = marked_written (codes "s:") ns s.members refl valid named.1 in
-    let seconds = marked_written (codes "t:") ns t.members refl valid named.2 in
-    let both = list_all-append is_written (marked (codes "s:") ns s.members)
-    (marked (codes "t:") ns t.members) in
+    let firsts = marked_written (codes "s:") (signal_words ns s) refl
+    (words_written ns s.members s.constant valid named.1) in
+    let seconds = marked_written (codes "t:") (signal_words ns t) refl
+    (words_written ns t.members t.constant valid named.2) in
+    let both = list_all-append is_written (marked (codes "s:") (signal_words ns s))
+    (marked (codes "t:") (signal_words ns t)) in
     rw (first, number, both, firsts, seconds) refl
 command_written half ns (FixX q s) valid permitted named typed =
     let first = name_of ns q valid named.0 in
-    let members = names_written ns s.members valid named.1 in
-    rw (first, members) refl
+    let terms = words_written ns s.members s.constant valid named.1 in
+    rw (first, terms) refl
 command_written half ns (FixZ q s) valid permitted named typed =
     let first = name_of ns q valid named.0 in
-    let members = names_written ns s.members valid named.1 in
-    rw (first, members) refl
+    let terms = words_written ns s.members s.constant valid named.1 in
+    rw (first, terms) refl
 
 commands_written : (half : ℕ) (ns : List Name) (cs : List Command) → AreNames ns
     → IsTrue (is_permitted half) → AreNamed (length ns) cs → AllTyped half cs
@@ -105,8 +118,26 @@ commands_written half ns (c ∷ cs) valid permitted named typed =
     let rest = commands_written half ns cs valid permitted named.1 typed.1 in
     rw (first, rest) refl
 
+version_written : (b : Bool) → is_written (version_word (if b then 2 else 1)) ≡ true
+version_written true = refl
+version_written false = refl
+
+turn_written : (half : ℕ) → list_all is_written (turn_words half) ≡ true
+turn_written half = by_test (half == 8)
+  where
+    by_test : (t : Bool)
+        → list_all is_written (if t then codes "turn" ∷ codes "16" ∷ [] else []) ≡ true
+    by_test true = refl
+    by_test false = refl
+
+header_written : (half : ℕ) (p : Pattern)
+    → is_written_line (header_words kind.Pattern (pattern_version p) half) ≡ true
+header_written half p =
+    rw (version_written (list_any has_constant p.commands), turn_written half) refl
+
 pattern_written : (half : ℕ) (p : Pattern) → IsPattern half p → IsTrue (is_permitted half)
-    → list_all is_written_line ((codes "pattern" ∷ codes "1" ∷ []) ∷ pattern_lines p) ≡ true
+    → list_all is_written_line
+    (header_words kind.Pattern (pattern_version p) half ∷ pattern_lines p) ≡ true
 pattern_written half p h permitted =
     let valid = h.valid.names in
     let inputs = front_written p.inputs p.names
@@ -117,6 +148,7 @@ pattern_written half p h permitted =
     let out = codes "out" ∷ map (name_at p.names) p.outputs in
     let end = (codes "end" ∷ []) ∷ [] in
     rw (
+      header_written half p,
       inputs,
       list_all-append is_written_line (map (command_line p.names) p.commands) (out ∷ end),
       commands,
@@ -128,93 +160,87 @@ if_both : (t : Bool) → let none : Words = [] in none ≡ (if t then none else 
 if_both true = refl
 if_both false = refl
 
-s_under : (test : Option Mark → Bool) (mark : Option Mark) (ns : List Name) (qs : List ℕ)
-    → AreNames ns
-    → All (λ q. q < length ns) qs
-    → words_under test mark (marked (codes "s:") ns qs)
-    ≡ (if test (Some S) then map (name_at ns) qs else [])
-s_under test mark ns [] valid below = if_both (test (Some S))
-s_under test mark ns (q ∷ qs) valid below = (names_unmarked ns (q ∷ qs) valid below (Some S)).1 test
+s_under : (test : Option Mark → Bool) (mark : Option Mark) (words : Words) → AreUnmarked words
+    → words_under test mark (marked (codes "s:") words) ≡ (if test (Some S) then words else [])
+s_under test mark [] plain = if_both (test (Some S))
+s_under test mark (word ∷ words) plain = (plain (Some S)).1 test
 
-t_under : (test : Option Mark → Bool) (mark : Option Mark) (ns : List Name) (qs : List ℕ)
-    → AreNames ns
-    → All (λ q. q < length ns) qs
-    → words_under test mark (marked (codes "t:") ns qs)
-    ≡ (if test (Some T) then map (name_at ns) qs else [])
-t_under test mark ns [] valid below = if_both (test (Some T))
-t_under test mark ns (q ∷ qs) valid below = (names_unmarked ns (q ∷ qs) valid below (Some T)).1 test
+t_under : (test : Option Mark → Bool) (mark : Option Mark) (words : Words) → AreUnmarked words
+    → words_under test mark (marked (codes "t:") words) ≡ (if test (Some T) then words else [])
+t_under test mark [] plain = if_both (test (Some T))
+t_under test mark (word ∷ words) plain = (plain (Some T)).1 test
 
-both_under : (test : Option Mark → Bool) (ns : List Name) (w a : List ℕ) (qs rs : List ℕ)
-    → mark_of w ≡ None → mark_of a ≡ None → AreNames ns → All (λ q. q < length ns) qs
-    → All (λ q. q < length ns) rs → test None ≡ false
-    → words_under test None (w ∷ a ∷ (marked (codes "s:") ns qs ++ marked (codes "t:") ns rs))
-    ≡ (if test (Some S) then map (name_at ns) qs else [])
-    ++ (if test (Some T) then map (name_at ns) rs else [])
-both_under test ns w a qs rs no_w no_a valid first second none =
-    let firsts = marked (codes "s:") ns qs in
-    let seconds = marked (codes "t:") ns rs in
-    two_under [] w a no_w no_a test (firsts ++ seconds) none
+both_under : (test : Option Mark → Bool) (w a : List ℕ) (ss ts : Words) → mark_of w ≡ None
+    → mark_of a ≡ None → AreUnmarked ss → AreUnmarked ts → test None ≡ false
+    → words_under test None (w ∷ a ∷ (marked (codes "s:") ss ++ marked (codes "t:") ts))
+    ≡ (if test (Some S) then ss else []) ++ (if test (Some T) then ts else [])
+both_under test w a ss ts no_w no_a first second none =
+    let firsts = marked (codes "s:") ss in
+    let seconds = marked (codes "t:") ts in
+    two_under false [] w a no_w no_a test (firsts ++ seconds) none
     ∙ under-append test None firsts seconds
-    ∙ ap₂ (λ (xs ys : Words). xs ++ ys) (s_under test None ns qs valid first)
-    (t_under test _ ns rs valid second)
+    ∙ ap₂ (λ (xs ys : Words). xs ++ ys) (s_under test None ss first) (t_under test _ ts second)
 
 meas_back : (half : ℕ) (ns : List Name) (q a : ℕ) (s t : Signal) → AreNames ns
     → IsTrue (is_permitted half) → IsNamed (length ns) (Meas q a s t) → IsTyped half (Meas q a s t)
-    → has_constant (Meas q a s t) ≡ false
     → (let words = name_at ns q ∷ decimal a
-    ∷ (marked (codes "s:") ns s.members ++ marked (codes "t:") ns t.members) in
+    ∷ (marked (codes "s:") (signal_words ns s) ++ marked (codes "t:") (signal_words ns t)) in
     command_by half ns (spelled_m (name_at ns q) (decimal a) (words_under is_first None words)
     (words_under is_second None words)))
     ≡ Meas q a s t
-meas_back half ns q a s t valid permitted named typed none =
+meas_back half ns q a s t valid permitted named typed =
     let w = name_at ns q in
     let no_w = name_no_mark w (is_name-name_at ns q valid named.0) in
     let no_a = decimal_no_mark half a permitted typed.0 in
-    let first = both_under is_first ns w (decimal a) s.members t.members no_w no_a valid named.1
-    named.2 refl
-    ∙ append-nil (map (name_at ns) s.members) in
-    let second = both_under is_second ns w (decimal a) s.members t.members no_w no_a valid named.1
-    named.2
-    refl in
+    let s_plain = signal_unmarked ns s.members s.constant valid named.1 in
+    let t_plain = signal_unmarked ns t.members t.constant valid named.2 in
+    let first = both_under is_first w (decimal a) (signal_words ns s) (signal_words ns t) no_w no_a
+    s_plain t_plain refl
+    ∙ append-nil (signal_words ns s) in
+    let second = both_under is_second w (decimal a) (signal_words ns s) (signal_words ns t) no_w
+    no_a s_plain t_plain refl in
     let number = number-name_at ns q valid.distinct named.0 in
     let angle = (angle-decimal half a permitted typed.0).1 in
-    let constants = or_parts s.constant t.constant none in
-    let s_back = signal_back ns s valid.distinct typed.1 constants.0 named.1 in
-    let t_back = signal_back ns t valid.distinct typed.2 constants.1 named.2 in
+    let s_back = words_back ns s valid typed.1 named.1 in
+    let t_back = words_back ns t valid typed.2 named.2 in
     ap₂ (λ (xs ys : Words). command_by half ns (spelled_m w (decimal a) xs ys)) first second
     ∙ rw (number, angle, s_back, t_back) refl
 
+command_back : (half : ℕ) (ns : List Name) (c : Command) → AreNames ns
+    → IsTrue (is_permitted half) → IsNamed (length ns) c → IsTyped half c
+    → option_map (command_by half ns) (spelled_command (command_line ns c)) ≡ Some c
+command_back half ns (Prep q) valid permitted named typed =
+    ap (λ k. Some (Prep k)) (number-name_at ns q valid.distinct named)
+command_back half ns (Ent q r) valid permitted named typed =
+    ap₂ (λ k l. Some (Ent k l)) (number-name_at ns q valid.distinct named.0)
+    (number-name_at ns r valid.distinct named.1)
+command_back half ns (Meas q a s t) valid permitted named typed =
+    ap Some (meas_back half ns q a s t valid permitted named typed)
+command_back half ns (FixX q s) valid permitted named typed =
+    ap₂ (λ k signal. Some (FixX k signal)) (number-name_at ns q valid.distinct named.0)
+    (words_back ns s valid typed named.1)
+command_back half ns (FixZ q s) valid permitted named typed =
+    ap₂ (λ k signal. Some (FixZ k signal)) (number-name_at ns q valid.distinct named.0)
+    (words_back ns s valid typed named.1)
+
+command_more : (f : Spelled → Command) (o : Option Spelled) (c : Command) (ds : List Command)
+    (lines : Lines) (here : Words) → spelled_command here ≡ o → option_map f o ≡ Some c
+    → map f (filter_map spelled_command lines) ≡ ds
+    → map f (filter_map spelled_command (here ∷ lines)) ≡ c ∷ ds
+command_more f None c ds lines here e one rest = absurd (cc one)
+command_more f (Some spelled) c ds lines here e one rest =
+    let same : f spelled ≡ c = cc one in
+    rw (e, same, rest) refl
+
 commands_back : (half : ℕ) (ns : List Name) (cs : List Command) → AreNames ns
     → IsTrue (is_permitted half) → AreNamed (length ns) cs → AllTyped half cs
-    → list_any has_constant cs ≡ false
     → map (command_by half ns) (filter_map spelled_command (map (command_line ns) cs)) ≡ cs
-commands_back half ns [] valid permitted named typed none = refl
-commands_back half ns (Prep q ∷ cs) valid permitted named typed none =
-    let number = number-name_at ns q valid.distinct named.0 in
-    ap₂ (λ (c : Command) (ds : List Command). c ∷ ds) (ap Prep number)
-    (commands_back half ns cs valid permitted named.1 typed.1 none)
-commands_back half ns (Ent q r ∷ cs) valid permitted named typed none =
-    let first = number-name_at ns q valid.distinct named.0.0 in
-    let second = number-name_at ns r valid.distinct named.0.1 in
-    ap₂ (λ (c : Command) (ds : List Command). c ∷ ds) (ap₂ Ent first second)
-    (commands_back half ns cs valid permitted named.1 typed.1 none)
-commands_back half ns (Meas q a s t ∷ cs) valid permitted named typed none =
-    let parts = or_parts (has_constant (Meas q a s t)) (list_any has_constant cs) none in
-    ap₂ (λ (c : Command) (ds : List Command). c ∷ ds)
-    (meas_back half ns q a s t valid permitted named.0 typed.0 parts.0)
-    (commands_back half ns cs valid permitted named.1 typed.1 parts.1)
-commands_back half ns (FixX q s ∷ cs) valid permitted named typed none =
-    let parts = or_parts s.constant (list_any has_constant cs) none in
-    let number = number-name_at ns q valid.distinct named.0.0 in
-    let signal = signal_back ns s valid.distinct typed.0 parts.0 named.0.1 in
-    ap₂ (λ (c : Command) (ds : List Command). c ∷ ds) (ap₂ FixX number signal)
-    (commands_back half ns cs valid permitted named.1 typed.1 parts.1)
-commands_back half ns (FixZ q s ∷ cs) valid permitted named typed none =
-    let parts = or_parts s.constant (list_any has_constant cs) none in
-    let number = number-name_at ns q valid.distinct named.0.0 in
-    let signal = signal_back ns s valid.distinct typed.0 parts.0 named.0.1 in
-    ap₂ (λ (c : Command) (ds : List Command). c ∷ ds) (ap₂ FixZ number signal)
-    (commands_back half ns cs valid permitted named.1 typed.1 parts.1)
+commands_back half ns [] valid permitted named typed = refl
+commands_back half ns (c ∷ cs) valid permitted named typed =
+    command_more (command_by half ns) (spelled_command (command_line ns c)) c cs
+    (map (command_line ns) cs) (command_line ns c) refl
+    (command_back half ns c valid permitted named.0 typed.0)
+    (commands_back half ns cs valid permitted named.1 typed.1)
 
 -- the names that the lines define
 commands_after : (ns : List Name) (inputs : ℕ) (before : Lines) (done cs : List Command)
@@ -262,8 +288,8 @@ names_of test p =
     (append-nil (names_in test (codes "end" ∷ [])))
 
 pattern_back : (half : ℕ) (p : Pattern) → IsPattern half p → IsTrue (is_permitted half)
-    → list_any has_constant p.commands ≡ false → pattern_of half (pattern_lines p) ≡ p
-pattern_back half p h permitted none =
+    → pattern_of half (pattern_lines p) ≡ p
+pattern_back half p h permitted =
     let ns = p.names in
     let valid = h.valid.names in
     let qubits = h.valid.qubits in
@@ -291,27 +317,46 @@ pattern_back half p h permitted none =
     ((codes "out" ∷ map (name_at ns) p.outputs) ∷ (codes "end" ∷ []) ∷ [])
     ∙ append-nil (filter_map spelled_command (map (command_line ns) p.commands)) in
     let commands = commands_back half ns p.commands valid permitted (pattern_named p h.valid)
-    h.typed none in
+    h.typed in
     rw (defined, inputs, few, listed, ← are.numbers_are, spelled, commands) refl
 
 pub text_read : (half : ℕ) (p : Pattern) → IsPattern half p → IsTrue (is_permitted half)
-    → IsRead pattern_rules [] (pattern_lines p) (behind_header (pattern_text p))
-    (end_of (pattern_text p))
+    → IsRead (pattern_rules (pattern_version p)) [] (pattern_lines p)
+    (behind_header (pattern_text half p)) (end_of (pattern_text half p))
 text_read half p h permitted =
-    written_read pattern_rules (codes "pattern" ∷ codes "1" ∷ []) (pattern_lines p)
-    (end_of (pattern_text p)) (pattern_written half p h permitted)
+    written_read (pattern_rules (pattern_version p))
+    (header_words kind.Pattern (pattern_version p) half) (pattern_lines p)
+    (end_of (pattern_text half p)) (pattern_written half p h permitted)
     (pattern_clean half p h permitted)
 
 pub text_back : (half : ℕ) (p : Pattern) → IsPattern half p → IsTrue (is_permitted half)
-    → list_any has_constant p.commands ≡ false
-    → pattern_of half (section_lines (behind_header (pattern_text p))) ≡ p
-text_back half p h permitted none =
-    ap (pattern_of half) (text_read half p h permitted).same ∙ pattern_back half p h permitted none
+    → pattern_of half (section_lines (behind_header (pattern_text half p))) ≡ p
+text_back half p h permitted =
+    ap (pattern_of half) (text_read half p h permitted).same ∙ pattern_back half p h permitted
 
 pub same_text : (half : ℕ) (p q : Pattern) → IsPattern half p → IsPattern half q
-    → IsTrue (is_permitted half) → list_any has_constant p.commands ≡ false
-    → list_any has_constant q.commands ≡ false → pattern_text p ≡ pattern_text q → p ≡ q
-same_text half p q h k permitted none none' e =
-    sym (text_back half p h permitted none)
+    → IsTrue (is_permitted half) → pattern_text half p ≡ pattern_text half q → p ≡ q
+same_text half p q h k permitted e =
+    sym (text_back half p h permitted)
     ∙ ap (λ text. pattern_of half (section_lines (behind_header text))) e
-    ∙ text_back half q k permitted none'
+    ∙ text_back half q k permitted
+
+-- the header
+first_words : (half : ℕ) (b : Bool) (lines : Lines) → (half ≡ 4) ⊎ (half ≡ 8)
+    → map (λ line. words_of line.items)
+    (take 1 (lines_of (text_of (header_words kind.Pattern (if b then 2 else 1) half ∷ lines))))
+    ≡ header_words kind.Pattern (if b then 2 else 1) half ∷ []
+first_words half true lines (inl e) = rw e refl
+first_words half true lines (inr e) = rw e refl
+first_words half false lines (inl e) = rw e refl
+first_words half false lines (inr e) = rw e refl
+
+four_or_eight : (half : ℕ) → IsTrue (is_permitted half) → (half ≡ 4) ⊎ (half ≡ 8)
+four_or_eight half permitted = grind arith
+
+pub header_back : (half : ℕ) (p : Pattern) → IsTrue (is_permitted half)
+    → map (λ line. words_of line.items) (take 1 (lines_of (pattern_text half p)))
+    ≡ header_words kind.Pattern (pattern_version p) half ∷ []
+header_back half p permitted =
+    first_words half (list_any has_constant p.commands) (pattern_lines p)
+    (four_or_eight half permitted)

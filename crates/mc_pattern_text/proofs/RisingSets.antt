@@ -1,16 +1,16 @@
 -- Sets of numbers as rising lists.
+use Rattle.std.specs.Prelude.{Option, Some, slice_get, length, unwrap_or}
 use Rattle.std.proofs.Common.{◌≡◌, ℕ, zero, suc, ◌+◌, ◌<◌, Bool, true, false, ◌&&◌, ◌||◌, List, []}
-use Rattle.std.proofs.Common.{◌∷◌, refl, sym, ap, ap₂, ◌∙◌, arith, nat_eq, nat_lt, nat_le}
+use Rattle.std.proofs.Common.{◌∷◌, refl, sym, ap, ap₂, ◌∙◌, arith, subst}
+use Rattle.std.proofs.Common.{nat_eq, nat_lt, nat_le}
 use Rattle.std.specs.List.{filter}
-use Rattle.std.proofs.lemmas.Bool.{eq-eqb, cases_Bool, cases_order, false≢true}
+use Rattle.std.proofs.lemmas.Bool.{eq-eqb, ne_eqb, cases_Bool, cases_order, false≢true}
 use Rattle.std.proofs.lemmas.Bool.Decides.{nat_tests}
 use mathlib.Core.Logic.{inl, inr}
-use mathlib.Core.Path.{fun_ext}
 use Rattle.mc_model.specs.Bits.{◌⊻◌, Bits}
 use Rattle.mc_model.specs.Numbers.{numbers_from, numbers_where, is_member}
-use Rattle.mc_model.specs.Signals.{AllAbove, IsRising, toggled}
-use Rattle.mc_model.proofs.SignalLemmas.{toggled_rising}
-use Rattle.mc_signal.proofs.Members.{is_member-above, is_member-first, is_member-toggled}
+use Rattle.mc_model.specs.Signals.{AllAbove, IsRising}
+use Rattle.mc_signal.proofs.Members.{is_member-above, is_member-first}
 use Rattle.mc_signal.proofs.Rising.{AllAbove-lower}
 
 -- the numbers from `q` on that pass a test
@@ -68,10 +68,6 @@ below_all b n k = grind (arith, nat_tests)
 pub member_where : (p : Bits) (n k : ℕ) → is_member (numbers_where p n) k ≡ (p k && nat_lt k n)
 member_where p n k = member_from p 0 n k ∙ below_all (p k) n k
 
-pub same_where : (p q : Bits) (n : ℕ) → ((k : ℕ) → p k ≡ q k) → numbers_where p n
-    ≡ numbers_where q n
-same_where p q n same = ap (λ (r : Bits). numbers_where r n) (fun_ext same)
-
 -- a rising list is determined by its members
 one_of : (q : ℕ) (qs : List ℕ) → is_member (q ∷ qs) q ≡ true
 one_of q qs = rw (eq-eqb q q refl) refl
@@ -106,24 +102,6 @@ same_members (p ∷ ps) (q ∷ qs) left right same = elim (cases_order p q) [
   ]
 ]
 
--- the set with one more number, or with one less
-toggle_below : (p e t : Bool) → (e ≡ true → t ≡ true) → ((p && t) ⊻ e) ≡ ((p ⊻ e) && t)
-toggle_below p e t below = grind arith
-
-pub toggled_where : (p : Bits) (n q : ℕ) → q < n
-    → toggled q (numbers_where p n) ≡ numbers_where (λ k. p k ⊻ nat_eq k q) n
-toggled_where p n q lt =
-    same_members (toggled q (numbers_where p n)) (numbers_where (λ k. p k ⊻ nat_eq k q) n)
-    (toggled_rising q (numbers_where p n) (rising_where p n))
-    (rising_where (λ k. p k ⊻ nat_eq k q) n) (λ k.
-    is_member-toggled q (numbers_where p n) k (rising_where p n)
-    ∙ rw (member_where p n k)
-    (toggle_below (p k) (nat_eq k q) (nat_lt k n) (λ e. below k e)
-    ∙ sym (member_where (λ j. p j ⊻ nat_eq j q) n k)))
-  where
-    below : (k : ℕ) → nat_eq k q ≡ true → nat_lt k n ≡ true
-    below k e = grind (arith, nat_tests)
-
 -- a rising list whose members pass a test, all of them below a bound
 whole_where : (b t : Bool) → (b ≡ true → t ≡ true) → b ≡ (b && t)
 whole_where b t below = grind arith
@@ -142,3 +120,26 @@ pub where_members : (qs : List ℕ) (n : ℕ) → IsRising qs
     → ((k : ℕ) → is_member qs k ≡ true → k < n) → numbers_where (is_member qs) n ≡ qs
 where_members qs n rising below =
     sym (set_where qs (is_member qs) n rising (λ k. refl) below)
+
+above_all : (ps : List ℕ) (p i m : ℕ) → AllAbove p ps → slice_get ps i ≡ Some m → p < m
+above_all [] p i m above at = cc
+above_all (q ∷ qs) p zero m above at = subst (λ (n : ℕ). p < n) (ap (λ (o : Option ℕ). unwrap_or o 0) at) above.0
+above_all (q ∷ qs) p (suc i) m above at = above_all qs p i m above.1 at
+
+-- a number above the last member is none
+pub above_last : (ps : List ℕ) (i m q : ℕ) → IsRising ps → length ps ≡ suc i →
+    slice_get ps i ≡ Some m → m < q → is_member ps q ≡ false
+above_last [] i m q rise long at lt = refl
+above_last (p ∷ []) zero m q rise long at lt =
+    ap (λ (b : Bool). b || false)
+    (ne_eqb q p (λ e. absurd (let same : p ≡ m = ap (λ (o : Option ℕ). unwrap_or o 0) at in omega arith)))
+above_last (p ∷ []) (suc i) m q rise long at lt = absurd (omega arith)
+above_last (p ∷ (r ∷ rs)) zero m q rise long at lt = absurd (omega arith)
+above_last (p ∷ (r ∷ rs)) (suc i) m q rise long at lt =
+    let below : p < m = above_all (r ∷ rs) p i m rise.0 at in
+    ap₂ (λ (a b : Bool). a || b) (ne_eqb q p (λ e. absurd (omega arith)))
+    (above_last (r ∷ rs) i m q rise.1 (omega arith) at lt)
+
+pub empty_lacks : (ps : List ℕ) (q : ℕ) → length ps ≡ 0 → is_member ps q ≡ false
+empty_lacks [] q none = refl
+empty_lacks (p ∷ ps) q none = absurd (omega arith)

@@ -37,7 +37,8 @@ pub mark_at : (before : Lines) (h : List ℕ) (words : Words)
 mark_at before h words =
     mark_from (next_point (first_point (last_head before)) h) words (omega arith)
 
-words_under-word : (test : Option Mark → Bool) (mark : Option Mark) (words : Words) (word : List ℕ)
+pub words_under-word : (test : Option Mark → Bool) (mark : Option Mark) (words : Words)
+    (word : List ℕ)
     → words_under test mark (words ++ word ∷ [])
     ≡ words_under test mark words ++ word_under test (fold onto_mark mark words) word
 words_under-word test mark [] word = append-nil (word_under test mark word)
@@ -48,7 +49,7 @@ words_under-word test mark (w ∷ words) word =
     (word_under test (fold onto_mark (option_or (mark_of w) mark) words) word)))
 
 -- nothing is under no mark
-under_none : (test : Option Mark → Bool) (word : List ℕ) → test None ≡ false
+pub under_none : (test : Option Mark → Bool) (word : List ℕ) → test None ≡ false
     → word_under test None word ≡ []
 under_none test word e = by_mark (is_some (mark_of word))
   where
@@ -81,7 +82,7 @@ under_more test before h (a ∷ b ∷ words) word e unmarked =
     ∙ rw (one, two, mark_at before h (a ∷ b ∷ words)) refl
 
 -- record words by their tests
-measuring_head : (h : Option Head) → is_measuring h ≡ true → h ≡ Some M
+pub measuring_head : (h : Option Head) → is_measuring h ≡ true → h ≡ Some M
 measuring_head None e = absurd (cc e)
 measuring_head (Some M) e = refl
 measuring_head (Some _) e = absurd (cc e)

@@ -1,5 +1,6 @@
 -- The rules and limits of a pattern's section.
 use Rattle.std.specs.Prelude.{ℕ, List, [], ◌∷◌, ◌++◌, drop, Bool, true, false, not, ◌&&◌, ◌||◌}
+use Rattle.std.specs.Prelude.{◌==◌}
 use Rattle.std.specs.Prelude.{nat_le, length, if◌then◌else◌, Option, None, Some, suc}
 use Rattle.std.specs.List.{list_all}
 use Rattle.mc_model.specs.Limits.{most_commands}
@@ -16,16 +17,17 @@ use Rattle.mc_text.specs.Rules.{broken, passed, or_next, new_name, known_name, l
 use Rattle.mc_text.specs.Rules.{angle_word}
 use Rattle.mc_text.specs.Lists.{names_in, names_at, operand_at, operands_at}
 use Rattle.mc_pattern_text.specs.Roles.{Role, record_word, input, prepared, operand, second, angle}
-use Rattle.mc_pattern_text.specs.Roles.{opening, first_member, member, output, surplus, may_follow}
+use Rattle.mc_pattern_text.specs.Roles.{opening, first_term, term, output, surplus, may_follow}
 use Rattle.mc_pattern_text.specs.Roles.{role_of, is_defining, is_command, has_operand, is_measuring}
 use Rattle.mc_pattern_text.specs.Roles.{is_correcting, is_output}
-use Rattle.mc_pattern_text.specs.Value.{is_first, is_second, words_under, spelled_commands}
+use Rattle.mc_pattern_text.specs.Value.{is_first, is_second, is_constant, words_under}
+use Rattle.mc_pattern_text.specs.Value.{spelled_commands}
 
 -- the names that earlier lines measure
 abbrev pub measured_in : Lines → List (List ℕ)
 measured_in before = operands_at 0 is_measuring before
 
--- the names of the first signal of a line, and of the second
+-- the words of the first signal of a line, and of the second
 abbrev pub first_signal : Words → Words
 first_signal here =
     words_under is_first None (names_in is_measuring here) ++ drop 1 (names_in is_correcting here)
@@ -38,14 +40,14 @@ abbrev pub is_in_second : Point → Bool
 is_in_second p = is_measuring p.head && is_second p.mark
 
 -- what a word is judged by: the names that are defined, that were measured in earlier lines and
--- that are listed as outputs, the first operand of its line, the members before it in its signal,
--- and the number of commands in the lines before
+-- that are listed as outputs, the first operand of its line, the words before it in its signal, and
+-- the number of commands in the lines before
 pub record Known : Type 0 where
   pub names : List (List ℕ)
   pub measured : List (List ℕ)
   pub listed : List (List ℕ)
   pub operand : Option (List ℕ)
-  pub members : List (List ℕ)
+  pub signal : Words
   pub commands : ℕ
 
 abbrev pub known_at : Lines → Words → Known
@@ -54,7 +56,7 @@ known_at before here = record {
   measured = measured_in before;
   listed = names_at is_output before here;
   operand = operand_at 0 has_operand here;
-  members =
+  signal =
       if is_in_second (point_of before here) then second_signal here else first_signal here;
   commands = length (spelled_commands before);
 }
@@ -78,21 +80,29 @@ abbrev pub output_name : List (List ℕ) → List (List ℕ) → List (List ℕ)
 output_name names measured listed word =
     or_next (still_name names measured word) (broken ((is_held listed word, ListedTwice) ∷ []))
 
--- a member of a signal, behind others
-abbrev pub member_name : List (List ℕ) → List (List ℕ) → List (List ℕ) → List ℕ → Option Judgement
-member_name names measured members word =
-    or_next (listed_name names members word)
+-- a member of a signal, behind other words of it
+abbrev pub member_name : List (List ℕ) → List (List ℕ) → Words → List ℕ → Option Judgement
+member_name names measured signal word =
+    or_next (listed_name names signal word)
     (broken ((not (is_held measured word), NotMeasured) ∷ []))
+
+-- a term of a signal: a member, or the constant where it may stand
+abbrev pub term_word : Bool → List (List ℕ) → List (List ℕ) → Words → List ℕ
+    → Option Judgement
+term_word constants names measured signal word =
+    if constants && is_constant word
+    then broken ((is_held signal word, ListedTwice) ∷ [])
+    else member_name names measured signal word
 
 -- a word that begins a signal
 abbrev pub opening_word : List ℕ → Option Judgement
 opening_word word =
     broken ((not (is_first (mark_of word) || is_second (mark_of word)), NotFixed) ∷ [])
 
-abbrev pub first_member_word : List (List ℕ) → List (List ℕ) → List (List ℕ) → List ℕ
+abbrev pub first_term_word : Bool → List (List ℕ) → List (List ℕ) → Words → List ℕ
     → Option Judgement
-first_member_word names measured members word =
-    if is_second (mark_of word) then None else member_name names measured members word
+first_term_word constants names measured signal word =
+    if is_second (mark_of word) then None else term_word constants names measured signal word
 
 -- a record word behind a line with the record word `last`, where there are so many commands
 abbrev pub next_record : Option Head → ℕ → List ℕ → Option Judgement
@@ -100,19 +110,20 @@ next_record last commands word =
     or_next (broken ((not (may_follow last (head_of word)), NotFixed) ∷ []))
     (passed (is_command (head_of word) && nat_le most_commands commands) 3 (suc most_commands))
 
--- a word by its role
-abbrev pub judge_by : Known → Option Head → Role → List ℕ → Option Judgement
-judge_by k last record_word word = next_record last k.commands word
-judge_by k last input word = new_name k.names word
-judge_by k last prepared word = new_name k.names word
-judge_by k last operand word = still_name k.names k.measured word
-judge_by k last second word = second_name k.names k.measured k.operand word
-judge_by k last angle word = angle_word word
-judge_by k last opening word = opening_word word
-judge_by k last first_member word = first_member_word k.names k.measured k.members word
-judge_by k last member word = member_name k.names k.measured k.members word
-judge_by k last output word = output_name k.names k.measured k.listed word
-judge_by k last surplus word = broken ((true, Surplus) ∷ [])
+-- a word by its role, where constants may stand or not
+abbrev pub judge_by : Bool → Known → Option Head → Role → List ℕ → Option Judgement
+judge_by constants k last record_word word = next_record last k.commands word
+judge_by constants k last input word = new_name k.names word
+judge_by constants k last prepared word = new_name k.names word
+judge_by constants k last operand word = still_name k.names k.measured word
+judge_by constants k last second word = second_name k.names k.measured k.operand word
+judge_by constants k last angle word = angle_word word
+judge_by constants k last opening word = opening_word word
+judge_by constants k last first_term word =
+    first_term_word constants k.names k.measured k.signal word
+judge_by constants k last term word = term_word constants k.names k.measured k.signal word
+judge_by constants k last output word = output_name k.names k.measured k.listed word
+judge_by constants k last surplus word = broken ((true, Surplus) ∷ [])
 
 -- whether a qubit is measured or an output
 abbrev pub is_settled : List (List ℕ) → List (List ℕ) → List ℕ → Bool
@@ -129,10 +140,18 @@ lacks_by k output =
     broken ((not (list_all (is_settled k.measured k.listed) k.names), OutputsLack) ∷ [])
 lacks_by k _ = None
 
-abbrev pub pattern_rules : Rules
-pattern_rules = record {
+-- the rules of a section in which constants may stand or not
+abbrev pub rules_with : Bool → Rules
+rules_with constants = record {
   judge = λ before here word.
       let p = point_of before here in
-      judge_by (known_at before here) p.last (role_of p) word;
+      judge_by constants (known_at before here) p.last (role_of p) word;
   lacks = λ before here. lacks_by (known_at before here) (role_of (point_of before here));
 }
+
+-- they may in version 2
+abbrev pub permits_constants : ℕ → Bool
+permits_constants version = version == 2
+
+abbrev pub pattern_rules : ℕ → Rules
+pattern_rules version = rules_with (permits_constants version)

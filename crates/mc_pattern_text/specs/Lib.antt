@@ -5,11 +5,3 @@ pub mod Value
 pub mod Judge
 pub mod Kept
 pub mod Samples
-pub mod ChangeRoles
-pub mod ChangeRows
-pub mod ChangeValue
-pub mod ChangeJudge
-pub mod ChangePlaces
-pub mod ChangeKept
-pub mod ChangeCanonical
-pub mod ChangeSamples

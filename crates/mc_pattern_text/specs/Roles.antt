@@ -9,9 +9,9 @@ use Rattle.mc_text.specs.declared.point.Point.{Point}
 
 -- a record word; a name that is defined as an input, or as a qubit that is prepared; the first
 -- operand of a command, the second of `e`, the angle of a measurement; behind the angle the word
--- that begins a signal; behind `s:` a member of the first signal, or the word that begins the
--- second one; another member of a signal; a name that is listed as an output; a word behind a
--- whole line
+-- that begins a signal; behind `s:` a term of the first signal, or the word that begins the second
+-- one; another term of a signal, which is a member or the constant; a name that is listed as an
+-- output; a word behind a whole line
 pub data Role : Type 0 where
   record_word : Role
   input : Role
@@ -20,8 +20,8 @@ pub data Role : Type 0 where
   second : Role
   angle : Role
   opening : Role
-  first_member : Role
-  member : Role
+  first_term : Role
+  term : Role
   output : Role
   surplus : Role
 
@@ -94,8 +94,8 @@ may_follow (Some _) head = false
 -- behind the angle of a measurement, by the last mark
 abbrev pub role_behind : Option Mark → Role
 role_behind None = opening
-role_behind (Some marks.S) = first_member
-role_behind (Some marks.T) = member
+role_behind (Some marks.S) = first_term
+role_behind (Some marks.T) = term
 role_behind (Some marks.Colon) = surplus
 
 -- the role of the n-th word behind a record word, where this is the last mark before it
@@ -105,8 +105,8 @@ role_in (Some N) n mark = if n == 1 then prepared else surplus
 role_in (Some E) n mark = if n == 1 then operand else (if n == 2 then second else surplus)
 role_in (Some M) n mark =
     if n == 1 then operand else (if n == 2 then angle else role_behind mark)
-role_in (Some X) n mark = if n == 1 then operand else member
-role_in (Some Z) n mark = if n == 1 then operand else member
+role_in (Some X) n mark = if n == 1 then operand else term
+role_in (Some Z) n mark = if n == 1 then operand else term
 role_in (Some Out) n mark = output
 role_in _ n mark = surplus
 

@@ -1,8 +1,8 @@
 -- The definitions, computed on small texts: each fault that a pattern can meet, with its place.
-use Rattle.std.specs.Prelude.{◌≡◌, ℕ, List, [], ◌∷◌, codes, replicate, false, Option, None, Some}
-use Rattle.std.specs.Prelude.{refl}
+use Rattle.std.specs.Prelude.{◌≡◌, ℕ, List, [], ◌∷◌, codes, replicate, true, false, Option, None}
+use Rattle.std.specs.Prelude.{Some, refl}
 use Rattle.mc_lex.specs.Lines.{lines_of, end_of}
-use Rattle.mc_model.specs.Signals.{Signal, no_signal}
+use Rattle.mc_model.specs.Signals.{Signal, no_signal, one_signal}
 use Rattle.mc_model.specs.Pattern.{Pattern, Prep, Ent, Meas, FixX, FixZ}
 use Rattle.mc_text.specs.declared.head.Head.TheVariants as head
 use Rattle.mc_text.specs.declared.fault.Fault.{Fault}
@@ -15,12 +15,12 @@ use Rattle.mc_text.specs.Judged.{Judgement, fault, limit, Place, first_in_sectio
 use Rattle.mc_pattern_text.specs.Value.{pattern_of}
 use Rattle.mc_pattern_text.specs.Judge.{pattern_rules, next_record}
 
--- the first fault or limit of a section that is the whole text
-abbrev pub first : List ℕ → Option (Judgement × Place)
-first text = first_in_section pattern_rules [] (lines_of text) (end_of text)
+-- the first fault or limit of a section of this version that is the whole text
+abbrev pub first : ℕ → List ℕ → Option (Judgement × Place)
+first version text = first_in_section (pattern_rules version) [] (lines_of text) (end_of text)
 
 abbrev pub Breaks : List ℕ → Fault → ℕ → ℕ → Type 0
-Breaks text broken line column = first text ≡ Some (fault broken, (line, column))
+Breaks text broken line column = first 2 text ≡ Some (fault broken, (line, column))
 
 abbrev pub Spells : List ℕ → Pattern → Type 0
 Spells text pattern = pattern_of 4 (section_lines (lines_of text)) ≡ pattern
@@ -28,14 +28,14 @@ Spells text pattern = pattern_of 4 (section_lines (lines_of text)) ≡ pattern
 abbrev pub set_of : List ℕ → Signal
 set_of qs = record { members = qs; constant = false }
 
-pub without_qubits : first (codes "in\nout\nend") ≡ None
+pub without_qubits : first 1 (codes "in\nout\nend") ≡ None
 without_qubits = refl
 
 pub whole :
-    first (codes "in a b\nn q\ne a q\nm a 0\nm b 1 s: a t: a\nx q a b\nz q\nout q\nend\n") ≡ None
+    first 1 (codes "in a b\nn q\ne a q\nm a 0\nm b 1 s: a t: a\nx q a b\nz q\nout q\nend\n") ≡ None
 whole = refl
 
-pub empty_signals : first (codes "in a\nm a 0 s: t:\nout\nend") ≡ None
+pub empty_signals : first 1 (codes "in a\nm a 0 s: t:\nout\nend") ≡ None
 empty_signals = refl
 
 abbrev pub each_command : List ℕ
@@ -64,6 +64,49 @@ pub second_alone : Spells (codes "in a b\nm a 0\nm b 0 t: a\nout\nend\n") (recor
   commands = Meas 0 0 no_signal no_signal ∷ Meas 1 0 no_signal (set_of (0 ∷ [])) ∷ [];
 })
 second_alone = refl
+
+-- constants, behind the members, before them and between them
+abbrev pub with_constants : List ℕ
+with_constants =
+    codes "in a b c\nm a 0 t: !\nm b 1 s: ! a t: a !\nx c b ! a\nz c !\nx c\nout c\nend\n"
+
+pub constants_pass : first 2 with_constants ≡ None
+constants_pass = refl
+
+abbrev pub set_and_one : List ℕ → Signal
+set_and_one qs = record { members = qs; constant = true }
+
+pub spells_constants : Spells with_constants (record {
+  names = codes "a" ∷ codes "b" ∷ codes "c" ∷ [];
+  inputs = 3;
+  outputs = 2 ∷ [];
+  commands =
+      Meas 0 0 no_signal one_signal
+      ∷ Meas 1 1 (set_and_one (0 ∷ [])) (set_and_one (0 ∷ []))
+      ∷ FixX 2 (set_and_one (0 ∷ 1 ∷ []))
+      ∷ FixZ 2 one_signal
+      ∷ FixX 2 no_signal
+      ∷ [];
+})
+spells_constants = refl
+
+pub no_constants_in_version_1 : first 1 with_constants ≡ Some (fault NotName, (2, 10))
+no_constants_in_version_1 = refl
+
+pub constant_twice : Breaks (codes "in a b\nm a 0\nx b ! a !\nout b\nend\n") ListedTwice 3 9
+constant_twice = refl
+
+pub constant_in_each_signal : first 2 (codes "in a\nm a 0 s: ! t: !\nout\nend\n") ≡ None
+constant_in_each_signal = refl
+
+pub corrected_constant : Breaks (codes "in a\nx ! a\nout a\nend\n") NotName 2 3
+corrected_constant = refl
+
+pub constant_without_mark : Breaks (codes "in a\nm a 0 !\nout\nend\n") NotFixed 2 7
+constant_without_mark = refl
+
+pub constant_listed : Breaks (codes "in a\nout a !\nend\n") NotName 2 7
+constant_listed = refl
 
 pub stray_byte : Breaks (codes "in a\nm a 0 s: \u{7f}\nout\nend\n") StrayByte 2 10
 stray_byte = refl
@@ -181,11 +224,11 @@ cut = refl
 abbrev pub many : List (List (List ℕ))
 many = (codes "in" ∷ replicate 255 (codes "a")) ∷ (codes "n" ∷ codes "b" ∷ []) ∷ []
 
-pub names_pass : pattern_rules.judge many (codes "n" ∷ []) (codes "c") ≡ Some (limit 2 257)
+pub names_pass : (pattern_rules 2).judge many (codes "n" ∷ []) (codes "c") ≡ Some (limit 2 257)
 names_pass = refl
 
 pub rules_before_the_limit :
-    pattern_rules.judge many (codes "n" ∷ []) (codes "b") ≡ Some (fault DefinedTwice)
+    (pattern_rules 2).judge many (codes "n" ∷ []) (codes "b") ≡ Some (fault DefinedTwice)
 rules_before_the_limit = refl
 
 pub commands_pass : next_record (Some head.M) 262144 (codes "x") ≡ Some (limit 3 262145)

@@ -1,6 +1,7 @@
 -- The pattern that lines spell, by filters and maps over them.
 use Rattle.std.specs.Prelude.{ℕ, List, [], ◌∷◌, ◌++◌, map, length, filter_map, Bool, true, false}
-use Rattle.std.specs.Prelude.{is_some, if◌then◌else◌, Option, None, Some}
+use Rattle.std.specs.Prelude.{not, codes, is_some, if◌then◌else◌, Option, None, Some}
+use Rattle.std.specs.List.{filter, list_any}
 use Rattle.std.specs.Option.{option_or}
 use Rattle.mc_angle.specs.Angle.{angle_of}
 use Rattle.mc_model.specs.Numbers.{numbers_where, is_member}
@@ -10,7 +11,7 @@ use Rattle.mc_text.specs.declared.head.Head.{Head}
 use Rattle.mc_text.specs.declared.head.Head.TheVariants as head
 use Rattle.mc_text.specs.declared.point.Mark.{Mark}
 use Rattle.mc_text.specs.declared.point.Mark.TheVariants.{S, T}
-use Rattle.mc_text.specs.Heads.{head_of}
+use Rattle.mc_text.specs.Heads.{head_of, is_word}
 use Rattle.mc_text.specs.Points.{mark_of}
 use Rattle.mc_text.specs.Judged.{Words, Lines}
 use Rattle.mc_text.specs.Rules.{number_in}
@@ -45,7 +46,15 @@ pub data Spelled : Type 0 where
   spelled_x : List ℕ → Words → Spelled
   spelled_z : List ℕ → Words → Spelled
 
--- the words behind a record word; the members of a measurement's signals stand behind their marks
+-- the word of a signal's constant
+abbrev pub is_constant : List ℕ → Bool
+is_constant word = is_word (codes "!") word
+
+-- the names among the words of a signal
+abbrev pub names_among : Words → Words
+names_among words = filter (λ word. not (is_constant word)) words
+
+-- the words behind a record word; those of a measurement's signals stand behind their marks
 abbrev pub spelled_e_by : Words → Option Spelled
 spelled_e_by (a ∷ b ∷ words) = Some (spelled_e a b)
 spelled_e_by _ = None
@@ -71,11 +80,13 @@ spelled_command (h ∷ words) = spelled_by (head_of h) words
 abbrev pub spelled_commands : Lines → List Spelled
 spelled_commands lines = filter_map spelled_command lines
 
--- the signal whose members are the qubits with these names
-abbrev pub signal_by : List (List ℕ) → Words → Signal
-signal_by names list = record {
-  members = numbers_where (is_member (map (number_in names) list)) (length names);
-  constant = false;
+-- the signal of these words: its members are the qubits with the names among them, and it has the
+-- constant where the word of that is one of them
+abbrev pub signal_in : List (List ℕ) → Words → Signal
+signal_in names words = record {
+  members =
+      numbers_where (is_member (map (number_in names) (names_among words))) (length names);
+  constant = list_any is_constant words;
 }
 
 -- the command, with the numbers of these names and angles of so many steps in half a turn
@@ -83,9 +94,9 @@ abbrev pub command_by : ℕ → List (List ℕ) → Spelled → Command
 command_by half names (spelled_n a) = Prep (number_in names a)
 command_by half names (spelled_e a b) = Ent (number_in names a) (number_in names b)
 command_by half names (spelled_m a b s t) =
-    Meas (number_in names a) (angle_of half b) (signal_by names s) (signal_by names t)
-command_by half names (spelled_x a s) = FixX (number_in names a) (signal_by names s)
-command_by half names (spelled_z a s) = FixZ (number_in names a) (signal_by names s)
+    Meas (number_in names a) (angle_of half b) (signal_in names s) (signal_in names t)
+command_by half names (spelled_x a s) = FixX (number_in names a) (signal_in names s)
+command_by half names (spelled_z a s) = FixZ (number_in names a) (signal_in names s)
 
 abbrev pub pattern_of : ℕ → Lines → Pattern
 pattern_of half lines =

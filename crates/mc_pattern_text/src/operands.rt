@@ -6,24 +6,27 @@ ghost use Rattle.std.specs.Option.{option_map};
 ghost use Rattle.mc_angle.specs.Angle.{angle_of};
 ghost use Rattle.mc_model.specs.Bits.{bits_of};
 ghost use Rattle.mc_model.specs.Steps.{is_permitted};
-ghost use Rattle.mc_model.specs.Numbers.{is_member};
 ghost use Rattle.mc_model.specs.Names.{is_name, place_of};
+ghost use Rattle.mc_model.specs.Numbers.{is_member};
+ghost use Rattle.mc_model.specs.Signals.{no_signal};
 ghost use Rattle.mc_pattern.specs.Commands.{plain_command};
+ghost use Rattle.mc_text.specs.Points.{mark_of};
 ghost use Rattle.mc_text.specs.Rules.{angle_word};
 ghost use Rattle.mc_text.specs.Stops.{IsStop};
 ghost use Rattle.mc_text.specs.declared.head.Head.{Head as PlainHead};
 ghost use Rattle.mc_pattern_text.specs.Roles.{has_operand, role_of, role_behind};
+ghost use Rattle.mc_pattern_text.specs.Value.{is_constant as constant_word};
 ghost use Rattle.mc_pattern_text.specs.Judge.{judge_by, still_name, second_name, member_name};
-ghost use Rattle.mc_pattern_text.specs.Judge.{opening_word, first_member_word};
-ghost use Rattle.mc_pattern_text.specs.Kept.{AreMarked, IsOperand, IsSecond, Joins, Stands, Takes};
-ghost use Rattle.mc_pattern_text.specs.Kept.{TakesBehind, set_behind, known_by, command_with};
-ghost use Rattle.mc_pattern_text.specs.Kept.{AreTyped};
+ghost use Rattle.mc_pattern_text.specs.Judge.{opening_word, term_word, first_term_word};
+ghost use Rattle.mc_pattern_text.specs.Kept.{AreMarked, IsOperand, IsSpelled, Joins};
+ghost use Rattle.mc_pattern_text.specs.Kept.{AddsMember, AddsConstant, Stands, Takes, TakesBehind};
+ghost use Rattle.mc_pattern_text.specs.Kept.{signal_behind, known_by, command_with, AreTyped};
 
 use crate::reader::Operands;
 use mc_angle::Angle;
 use mc_names::Names;
 use mc_pattern::Command;
-use mc_signal::{QSet, Signal};
+use mc_signal::Signal;
 use mc_text::{Fault, Head, Mark, Point, Stop, angle, known};
 use std::alloc::Global;
 
@@ -31,15 +34,15 @@ impl<const H: usize> Operands<H> {
     /// Before the first word.
     pub(crate) fn new(alloc: Global) -> Operands<H>
         requires { IsTrue (is_permitted H) }
-        ensures s { result.s ≡ [] }
-        ensures t { result.t ≡ [] }
+        ensures s { result.s ≡ no_signal }
+        ensures t { result.t ≡ no_signal }
     {
         Operands {
             first: 0,
             second: 0,
             angle: Angle::of(0),
-            s: QSet::new(alloc),
-            t: QSet::new(alloc),
+            s: Signal::empty(alloc),
+            t: Signal::empty(alloc),
         }
     }
 
@@ -48,25 +51,24 @@ impl<const H: usize> Operands<H> {
         ensures command { option_map plain_command result ≡ command_with head self.entry }
         ensures typed { AreTyped self.entry }
     {
-        // the proof needs that the angle is less than a turn, and that sets are in order
-        let _steps = self.angle.steps();
-        let _members = (self.s.len(), self.t.len());
+        // the proof needs that sets are in order
+        let _members = (self.s.members().len(), self.t.members().len());
         match head {
             Some(Head::N) => Some(Command::Prep(self.first)),
             Some(Head::E) => Some(Command::Ent(self.first, self.second)),
             Some(Head::M) => Some(Command::Meas {
                 q: self.first,
                 angle: self.angle,
-                s: Signal::of(self.s),
-                t: Signal::of(self.t),
+                s: self.s,
+                t: self.t,
             }),
             Some(Head::X) => Some(Command::FixX {
                 q: self.first,
-                s: Signal::of(self.s),
+                s: self.s,
             }),
             Some(Head::Z) => Some(Command::FixZ {
                 q: self.first,
-                s: Signal::of(self.s),
+                s: self.s,
             }),
             _ => None,
         }
@@ -87,7 +89,6 @@ pub(crate) fn still(names: &Names, marks: &[bool], word: &[u8]) -> Result<u16, S
         → still_name names.now measured word.now ≡ None) }
     ensures name { OnOk result (is_name word.now ≡ true) }
     ensures place { IfOk result (λ q. place_of names.now word.now ≡ Some q) }
-    ensures live { IfOk result (λ q. bits_of marks.now q ≡ false) }
     ensures err { IfErr result (λ stop. (measured : List (List ℕ))
         → AreMarked names.now measured (bits_of marks.now)
         → IsStop stop (still_name names.now measured word.now)) }
@@ -110,7 +111,6 @@ fn take_first(names: &Names, marks: &[bool], first: &mut u16, word: &[u8]) -> Re
         → still_name names.now measured word.now ≡ None) }
     ensures name { OnOk result (is_name word.now ≡ true) }
     ensures place { OnOk result (place_of names.now word.now ≡ Some first.new) }
-    ensures live { OnOk result (bits_of marks.now first.new ≡ false) }
     ensures err { IfErr result (λ stop. (measured : List (List ℕ))
         → AreMarked names.now measured (bits_of marks.now)
         → IsStop stop (still_name names.now measured word.now)) }
@@ -135,7 +135,7 @@ fn take_second(
     ensures clean { OnOk result ((measured : List (List ℕ)) (name : Option (List ℕ))
         → AreMarked names.now measured (bits_of marks.now) → IsOperand names.now name first
         → second_name names.now measured name word.now ≡ None) }
-    ensures is { OnOk result (IsSecond names.now (bits_of marks.now) first second.new word.now) }
+    ensures place { OnOk result (place_of names.now word.now ≡ Some second.new) }
     ensures err { IfErr result (λ stop. (measured : List (List ℕ)) (name : Option (List ℕ))
         → AreMarked names.now measured (bits_of marks.now) → IsOperand names.now name first
         → IsStop stop (second_name names.now measured name word.now)) }
@@ -169,34 +169,93 @@ fn take_angle<const H: usize>(kept: &mut Angle<H>, word: &[u8]) -> Result<(), St
     }
 }
 
-/// Takes a member of a signal.
-fn take_member(names: &Names, marks: &[bool], members: &mut QSet, word: &[u8]) -> Result<(), Stop>
-    ensures clean { OnOk result ((measured list : List (List ℕ))
-        → AreMarked names.now measured (bits_of marks.now)
-        → AreMarked names.now list (is_member members.old)
-        → member_name names.now measured list word.now ≡ None) }
-    ensures name { OnOk result (is_name word.now ≡ true) }
-    ensures joins { OnOk result (Joins names.now (bits_of marks.now) members.old members.new (word.now ∷ [])) }
-    ensures err { IfErr result (λ stop. (measured list : List (List ℕ))
-        → AreMarked names.now measured (bits_of marks.now)
-        → AreMarked names.now list (is_member members.old)
-        → IsStop stop (member_name names.now measured list word.now)) }
+/// Whether a word is that of the constant.
+fn is_constant(word: &[u8]) -> bool
+    ensures { result ≡ constant_word word.now }
 {
-    // the proof needs that there are at most 256 names
-    let _count = names.len();
+    word == b"!".as_slice()
+}
+
+/// Whether a qubit is a member of a signal; none is that stands above the last one.
+fn is_member_of(signal: &Signal, number: u16) -> bool
+    ensures { result ≡ is_member signal.now.members number }
+{
+    let members = signal.members();
+    let count = members.len();
+    if count == 0 || members.get(count - 1) < number {
+        return false;
+    }
+    signal.has(number)
+}
+
+/// Takes a member of a signal.
+fn take_member(names: &Names, marks: &[bool], signal: &mut Signal, word: &[u8]) -> Result<(), Stop>
+    ensures clean { OnOk result ((measured words : List (List ℕ))
+        → AreMarked names.now measured (bits_of marks.now) → IsSpelled names.now words signal.old
+        → member_name names.now measured words word.now ≡ None) }
+    ensures name { OnOk result (is_name word.now ≡ true) }
+    ensures adds { OnOk result (AddsMember names.now signal.old signal.new word.now) }
+    ensures err { IfErr result (λ stop. (measured words : List (List ℕ))
+        → AreMarked names.now measured (bits_of marks.now) → IsSpelled names.now words signal.old
+        → IsStop stop (member_name names.now measured words word.now)) }
+{
+    // the proof needs that there are at most 256 names, and that the members are in order
+    let _count = (names.len(), signal.members().len());
     let number = match known(names, word) {
         Ok(number) => number,
         Err(stop) => return Err(stop),
     };
-    if members.has(number) {
+    if is_member_of(signal, number) {
         return Err(Stop::Fault(Fault::ListedTwice));
     }
     if !is_marked(marks, number) {
         return Err(Stop::Fault(Fault::NotMeasured));
     }
-    match members.toggle(number) {
+    match signal.toggle(number) {
         Ok(()) => Ok(()),
         Err(_) => Err(Stop::Memory),
+    }
+}
+
+/// Takes the constant of a signal.
+#[tactic(auto, using(crate::proofs::Terms::constant_terms))]
+fn take_constant(signal: &mut Signal, word: &[u8]) -> Result<(), Stop>
+    requires { constant_word word.now ≡ true }
+    ensures clean { OnOk result ((names measured words : List (List ℕ))
+        → IsSpelled names words signal.old → term_word true names measured words word.now ≡ None) }
+    ensures adds { OnOk result (AddsConstant signal.old signal.new word.now) }
+    ensures err { IfErr result (λ stop. (names measured words : List (List ℕ))
+        → IsSpelled names words signal.old
+        → IsStop stop (term_word true names measured words word.now)) }
+{
+    if signal.constant() {
+        return Err(Stop::Fault(Fault::ListedTwice));
+    }
+    signal.flip();
+    Ok(())
+}
+
+/// Takes a term of a signal: a member, or the constant where it may stand.
+fn take_term(
+    names: &Names,
+    marks: &[bool],
+    constants: bool,
+    signal: &mut Signal,
+    word: &[u8],
+) -> Result<(), Stop>
+    ensures clean { OnOk result ((measured words : List (List ℕ))
+        → AreMarked names.now measured (bits_of marks.now) → IsSpelled names.now words signal.old
+        → term_word constants names.now measured words word.now ≡ None) }
+    ensures unmarked { OnOk result (mark_of word.now ≡ None) }
+    ensures joins { OnOk result (Joins names.now signal.old signal.new (word.now ∷ [])) }
+    ensures err { IfErr result (λ stop. (measured words : List (List ℕ))
+        → AreMarked names.now measured (bits_of marks.now) → IsSpelled names.now words signal.old
+        → IsStop stop (term_word constants names.now measured words word.now)) }
+{
+    if constants && is_constant(word) {
+        take_constant(signal, word)
+    } else {
+        take_member(names, marks, signal, word)
     }
 }
 
@@ -215,15 +274,17 @@ fn take_opening(word: &[u8]) -> Result<(), Stop>
 fn take_behind<const H: usize>(
     names: &Names,
     marks: &[bool],
+    constants: bool,
     operands: &mut Operands<H>,
     mark: Option<Mark>,
     word: &[u8],
 ) -> Result<(), Stop>
-    ensures ok { OnOk result (TakesBehind names.now (bits_of marks.now) operands.old operands.new mark word.now) }
-    ensures err { IfErr result (λ stop. (measured listed members : List (List ℕ)) (first : Option (List ℕ))
+    ensures ok { OnOk result
+        (TakesBehind constants names.now (bits_of marks.now) operands.old operands.new mark word.now) }
+    ensures err { IfErr result (λ stop. (measured listed signal : List (List ℕ)) (first : Option (List ℕ))
         (commands : ℕ) (last : Option PlainHead) → AreMarked names.now measured (bits_of marks.now)
-        → AreMarked names.now members (is_member (set_behind operands.old mark))
-        → IsStop stop (judge_by (known_by names.now measured listed members first commands) last
+        → IsSpelled names.now signal (signal_behind operands.old mark)
+        → IsStop stop (judge_by constants (known_by names.now measured listed signal first commands) last
         (role_behind mark) word.now)) }
 {
     match mark {
@@ -232,9 +293,9 @@ fn take_behind<const H: usize>(
             if Mark::read(word) == Some(Mark::T) {
                 return Ok(());
             }
-            take_member(names, marks, &mut operands.s, word)
+            take_term(names, marks, constants, &mut operands.s, word)
         }
-        Some(Mark::T) => take_member(names, marks, &mut operands.t, word),
+        Some(Mark::T) => take_term(names, marks, constants, &mut operands.t, word),
         Some(Mark::Colon) => Err(Stop::Fault(Fault::Surplus)),
     }
 }
@@ -243,16 +304,18 @@ fn take_behind<const H: usize>(
 pub(crate) fn take_word<const H: usize>(
     names: &Names,
     marks: &[bool],
+    constants: bool,
     operands: &mut Operands<H>,
     point: Point,
     word: &[u8],
 ) -> Result<(), Stop>
     requires later { point.count ≡ 0 → ⊥ }
     requires command { has_operand point.head ≡ true }
-    ensures ok { OnOk result (Takes names.now (bits_of marks.now) operands.old operands.new point word.now) }
-    ensures err { IfErr result (λ stop. (measured listed members : List (List ℕ)) (first : Option (List ℕ))
-        (commands : ℕ) → Stands names.now (bits_of marks.now) operands.old point measured members first
-        → IsStop stop (judge_by (known_by names.now measured listed members first commands)
+    ensures ok { OnOk result
+        (Takes constants names.now (bits_of marks.now) operands.old operands.new point word.now) }
+    ensures err { IfErr result (λ stop. (measured listed signal : List (List ℕ)) (first : Option (List ℕ))
+        (commands : ℕ) → Stands names.now (bits_of marks.now) operands.old point measured signal first
+        → IsStop stop (judge_by constants (known_by names.now measured listed signal first commands)
         point.last (role_of point) word.now)) }
 {
     match (point.head, point.count) {
@@ -261,9 +324,9 @@ pub(crate) fn take_word<const H: usize>(
             take_second(names, marks, operands.first, &mut operands.second, word)
         }
         (Some(Head::M), 2) => take_angle(&mut operands.angle, word),
-        (Some(Head::M), _) => take_behind(names, marks, operands, point.mark, word),
-        (Some(Head::X), _) => take_member(names, marks, &mut operands.s, word),
-        (Some(Head::Z), _) => take_member(names, marks, &mut operands.s, word),
+        (Some(Head::M), _) => take_behind(names, marks, constants, operands, point.mark, word),
+        (Some(Head::X), _) => take_term(names, marks, constants, &mut operands.s, word),
+        (Some(Head::Z), _) => take_term(names, marks, constants, &mut operands.s, word),
         _ => Err(Stop::Fault(Fault::Surplus)),
     }
 }

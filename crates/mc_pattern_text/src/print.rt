@@ -1,30 +1,57 @@
 //! Printing a pattern.
 
 ghost use Rattle.std.specs.Prelude.{◌≡◌, ◌++◌, ◌∷◌, [], ◌<◌, ◌≤◌, All, IfOk, OnOk, length, map};
-ghost use Rattle.std.specs.Prelude.{codes, take};
-ghost use Rattle.mc_model.specs.Pattern.{Prep, Ent, Meas, FixX, FixZ};
+ghost use Rattle.std.specs.Prelude.{codes, take, if◌then◌else◌};
+ghost use Rattle.std.specs.List.{list_any};
+ghost use Rattle.mc_model.specs.Pattern.{Prep, Ent, Meas, has_constant as holds_constant};
 ghost use Rattle.mc_write.specs.Text.{line_text, text_of, words_behind};
 ghost use Rattle.mc_write.specs.Named.{name_at};
 ghost use Rattle.mc_pattern.specs.Commands.{plain_command};
-ghost use Rattle.mc_pattern_text.specs.Canonical.{marked, command_line, pattern_text};
 ghost use Rattle.mc_pattern_text.specs.Written.{IsNamed, AreNamed};
+ghost use Rattle.mc_pattern_text.specs.Canonical.{marked, command_line, constant_words};
+ghost use Rattle.mc_pattern_text.specs.Canonical.{signal_words, pattern_text};
 
 use mc_angle::Angle;
+use mc_lex::Kind;
 use mc_model::Memory;
 use mc_names::Names;
 use mc_pattern::{Command, Pattern};
 use mc_signal::Signal;
+use mc_text::print_header;
 use mc_write::{
     add_name, add_names, add_names_between, add_number, add_word, end_line, start_line,
 };
 use std::alloc::Global;
 
-fn print_header(text: &mut Vec<u8>) -> Result<(), Memory>
-    ensures { OnOk result (text.new.items ≡ text.old.items ++ line_text (codes "pattern" ∷ codes "1" ∷ [])) }
+/// Whether a signal of a command has the constant.
+fn has_constant<const H: usize>(command: &Command<H>) -> bool
+    ensures { result ≡ holds_constant (plain_command command.now) }
 {
-    start_line(text, b"pattern")?;
-    add_word(text, b"1")?;
-    end_line(text)
+    match command {
+        Command::Prep(_) => false,
+        Command::Ent(_, _) => false,
+        Command::Meas { s, t, .. } => s.constant() || t.constant(),
+        Command::FixX { s, .. } => s.constant(),
+        Command::FixZ { s, .. } => s.constant(),
+    }
+}
+
+/// Whether a signal of any of the commands has the constant.
+fn have_constants<const H: usize>(commands: &[Command<H>]) -> bool
+    ensures { result ≡ list_any (λ c. holds_constant (plain_command c)) commands.now }
+{
+    commands.iter().any(
+        |command| -> bool
+            ensures { result ≡ holds_constant (plain_command command.now) }
+        { has_constant(command) },
+    )
+}
+
+/// The version of the text of a pattern with these commands.
+fn version_of<const H: usize>(commands: &[Command<H>]) -> u8
+    ensures { result ≡ (if list_any (λ c. holds_constant (plain_command c)) commands.now then 2 else 1) }
+{
+    if have_constants(commands) { 2 } else { 1 }
 }
 
 fn print_inputs(text: &mut Vec<u8>, names: &Names, inputs: u16) -> Result<(), Memory>
@@ -37,9 +64,10 @@ fn print_inputs(text: &mut Vec<u8>, names: &Names, inputs: u16) -> Result<(), Me
 }
 
 /// Writes the members of a signal as further words of a line.
-pub(crate) fn add_members(text: &mut Vec<u8>, names: &Names, signal: &Signal) -> Result<(), Memory>
+fn add_members(text: &mut Vec<u8>, names: &Names, signal: &Signal) -> Result<(), Memory>
     requires { All (λ k. k < length names.now) signal.now.members }
-    ensures { OnOk result (text.new.items ≡ text.old.items ++ words_behind (map (name_at names.now) signal.now.members)) }
+    ensures { OnOk result (text.new.items ≡
+        text.old.items ++ words_behind (map (name_at names.now) signal.now.members)) }
 {
     let members = signal.members();
     'members: for i in 0..members.len() {
@@ -48,16 +76,36 @@ pub(crate) fn add_members(text: &mut Vec<u8>, names: &Names, signal: &Signal) ->
     Ok(())
 }
 
-/// Writes the members of a signal behind a mark, where there are any.
+/// Writes the constant as a further word of a line.
+fn add_constant(text: &mut Vec<u8>, constant: bool) -> Result<(), Memory>
+    ensures { OnOk result (text.new.items ≡ text.old.items ++ words_behind (constant_words constant)) }
+{
+    if constant {
+        add_word(text, b"!")?;
+    }
+    Ok(())
+}
+
+/// Writes a signal as further words of a line.
+fn add_signal(text: &mut Vec<u8>, names: &Names, signal: &Signal) -> Result<(), Memory>
+    requires { All (λ k. k < length names.now) signal.now.members }
+    ensures { OnOk result (text.new.items ≡ text.old.items ++ words_behind (signal_words names.now signal.now)) }
+{
+    add_members(text, names, signal)?;
+    add_constant(text, signal.constant())
+}
+
+/// Writes a signal behind a mark, where it is not empty.
 fn add_marked(text: &mut Vec<u8>, mark: &[u8], names: &Names, signal: &Signal) -> Result<(), Memory>
     requires { All (λ k. k < length names.now) signal.now.members }
-    ensures { OnOk result (text.new.items ≡ text.old.items ++ words_behind (marked mark.now names.now signal.now.members)) }
+    ensures { OnOk result (text.new.items ≡
+        text.old.items ++ words_behind (marked mark.now (signal_words names.now signal.now))) }
 {
-    if signal.members().is_empty() {
+    if signal.is_empty() {
         return Ok(());
     }
     add_word(text, mark)?;
-    add_members(text, names, signal)
+    add_signal(text, names, signal)
 }
 
 fn print_prep(text: &mut Vec<u8>, names: &Names, q: u16) -> Result<(), Memory>
@@ -102,25 +150,21 @@ fn print_measurement<const H: usize>(
     end_line(text)
 }
 
-fn print_x(text: &mut Vec<u8>, names: &Names, q: u16, signal: &Signal) -> Result<(), Memory>
+fn print_correction(
+    text: &mut Vec<u8>,
+    head: &[u8],
+    names: &Names,
+    q: u16,
+    signal: &Signal,
+) -> Result<(), Memory>
     requires qubit { q < length names.now }
     requires members { All (λ k. k < length names.now) signal.now.members }
-    ensures { OnOk result (text.new.items ≡ text.old.items ++ line_text (command_line names.now (FixX q signal.now))) }
+    ensures { OnOk result (text.new.items ≡
+        text.old.items ++ line_text (head.now ∷ name_at names.now q ∷ signal_words names.now signal.now)) }
 {
-    start_line(text, b"x")?;
+    start_line(text, head)?;
     add_name(text, names, q)?;
-    add_members(text, names, signal)?;
-    end_line(text)
-}
-
-fn print_z(text: &mut Vec<u8>, names: &Names, q: u16, signal: &Signal) -> Result<(), Memory>
-    requires qubit { q < length names.now }
-    requires members { All (λ k. k < length names.now) signal.now.members }
-    ensures { OnOk result (text.new.items ≡ text.old.items ++ line_text (command_line names.now (FixZ q signal.now))) }
-{
-    start_line(text, b"z")?;
-    add_name(text, names, q)?;
-    add_members(text, names, signal)?;
+    add_signal(text, names, signal)?;
     end_line(text)
 }
 
@@ -130,14 +174,15 @@ fn print_command<const H: usize>(
     command: &Command<H>,
 ) -> Result<(), Memory>
     requires { IsNamed (length names.now) (plain_command command.now) }
-    ensures { OnOk result (text.new.items ≡ text.old.items ++ line_text (command_line names.now (plain_command command.now))) }
+    ensures { OnOk result (text.new.items ≡
+        text.old.items ++ line_text (command_line names.now (plain_command command.now))) }
 {
     match command {
         Command::Prep(q) => print_prep(text, names, *q),
         Command::Ent(q, r) => print_entangling(text, names, *q, *r),
         Command::Meas { q, angle, s, t } => print_measurement(text, names, *q, angle, s, t),
-        Command::FixX { q, s } => print_x(text, names, *q, s),
-        Command::FixZ { q, s } => print_z(text, names, *q, s),
+        Command::FixX { q, s } => print_correction(text, b"x", names, *q, s),
+        Command::FixZ { q, s } => print_correction(text, b"z", names, *q, s),
     }
 }
 
@@ -159,29 +204,31 @@ fn print_commands<const H: usize>(
 
 fn print_outputs(text: &mut Vec<u8>, names: &Names, outputs: &[u16]) -> Result<(), Memory>
     requires { All (λ q. q < length names.now) outputs.now }
-    ensures { OnOk result (text.new.items ≡ text.old.items ++ line_text (codes "out" ∷ map (name_at names.now) outputs.now)) }
+    ensures { OnOk result (text.new.items ≡
+        text.old.items ++ line_text (codes "out" ∷ map (name_at names.now) outputs.now)) }
 {
     start_line(text, b"out")?;
     add_names(text, names, outputs)?;
     end_line(text)
 }
 
-pub(crate) fn print_end(text: &mut Vec<u8>) -> Result<(), Memory>
+fn print_end(text: &mut Vec<u8>) -> Result<(), Memory>
     ensures { OnOk result (text.new.items ≡ text.old.items ++ line_text (codes "end" ∷ [])) }
 {
     start_line(text, b"end")?;
     end_line(text)
 }
 
-/// The canonical text of a pattern.
+/// The canonical text of a pattern. It is of the second version exactly where a signal has the constant.
 pub fn print_pattern<const H: usize>(alloc: Global, pattern: &Pattern<H>) -> Result<Vec<u8>, Memory>
-    ensures { IfOk result (λ text. text.items ≡ pattern_text pattern.now) }
+    ensures { IfOk result (λ text. text.items ≡ pattern_text H pattern.now) }
 {
     let mut text = Vec::new(alloc);
     let names = pattern.names();
-    print_header(&mut text)?;
+    let commands = pattern.commands();
+    print_header(&mut text, Kind::Pattern, version_of(commands), H)?;
     print_inputs(&mut text, names, pattern.inputs())?;
-    print_commands(&mut text, names, pattern.commands())?;
+    print_commands(&mut text, names, commands)?;
     print_outputs(&mut text, names, pattern.outputs())?;
     print_end(&mut text)?;
     Ok(text)

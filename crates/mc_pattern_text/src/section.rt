@@ -1,7 +1,8 @@
 //! The section of a pattern.
 
-ghost use Rattle.std.specs.Prelude.{[], IsTrue};
+ghost use Rattle.std.specs.Prelude.{◌≡◌, [], IsTrue};
 ghost use Rattle.mc_model.specs.Steps.{is_permitted};
+ghost use Rattle.mc_pattern_text.specs.Judge.{permits_constants};
 ghost use Rattle.mc_pattern_text.specs.Kept.{IsKept};
 
 use crate::reader::{Operands, Reader};
@@ -11,13 +12,15 @@ use mc_text::{Point, Section, Stop};
 use std::alloc::Global;
 
 impl<const H: usize> Reader<H> {
-    /// Before the first line.
-    pub(crate) fn new(alloc: Global) -> Reader<H>
+    /// Before the first line of a section of this version.
+    pub(crate) fn new(alloc: Global, version: u8) -> Reader<H>
         requires { IsTrue (is_permitted H) }
-        ensures { IsKept result [] [] }
+        ensures kept { IsKept result [] [] }
+        ensures constants { result.constants ≡ permits_constants version }
     {
         Reader {
             alloc,
+            constants: version == 2,
             names: Names::new(alloc),
             inputs: 0,
             marks: [false; 256],
@@ -29,10 +32,10 @@ impl<const H: usize> Reader<H> {
 }
 
 impl<const H: usize> Section for Reader<H> {
-    ghost use Rattle.mc_pattern_text.specs.Judge.{pattern_rules};
+    ghost use Rattle.mc_pattern_text.specs.Judge.{rules_with};
     ghost use Rattle.mc_pattern_text.specs.Kept.{IsKept};
 
-    ghost rules = { λ _. pattern_rules };
+    ghost rules = { λ reader. rules_with reader.constants };
 
     ghost means = { IsKept };
 

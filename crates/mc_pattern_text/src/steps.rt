@@ -134,10 +134,11 @@ pub(crate) fn take<const H: usize>(
     word: &[u8],
 ) -> Result<(), Stop>
     ensures ok { OnOk result (Moves kept.old kept.new point word.now) }
-    ensures err { IfErr result (λ stop. (measured listed members : List (List ℕ)) (first : Option (List ℕ))
-        → Stands kept.old.names (bits_of kept.old.marks) kept.old.operands point measured members first
+    ensures err { IfErr result (λ stop. (measured listed signal : List (List ℕ)) (first : Option (List ℕ))
+        → Stands kept.old.names (bits_of kept.old.marks) kept.old.operands point measured signal first
         → AreNumbers kept.old.names listed kept.old.outputs.items
-        → IsStop stop (judge_by (known_by kept.old.names measured listed members first (length kept.old.commands.items))
+        → IsStop stop (judge_by kept.old.constants
+        (known_by kept.old.names measured listed signal first (length kept.old.commands.items))
         point.last (role_of point) word.now)) }
 {
     match (point.head, point.count) {
@@ -152,7 +153,14 @@ pub(crate) fn take<const H: usize>(
         (Some(Head::N), 1) => take_prepared(&mut kept.names, &mut kept.operands.first, word),
         (Some(Head::Out), _) => take_output(&kept.names, &kept.marks, &mut kept.outputs, word),
         (Some(Head::E | Head::M | Head::X | Head::Z), _) => {
-            take_word(&kept.names, &kept.marks, &mut kept.operands, point, word)
+            take_word(
+                &kept.names,
+                &kept.marks,
+                kept.constants,
+                &mut kept.operands,
+                point,
+                word,
+            )
         }
         _ => Err(Stop::Fault(Fault::Surplus)),
     }
@@ -181,12 +189,12 @@ fn settles_each(names: &Names, marks: &[bool], numbers: &[u16]) -> bool
 
 /// Judges the end of a line.
 fn end_words(names: &Names, marks: &[bool], outputs: &[u16], point: Point) -> Result<(), Stop>
-    ensures clean { OnOk result ((measured listed members : List (List ℕ)) (first : Option (List ℕ))
+    ensures clean { OnOk result ((measured listed signal : List (List ℕ)) (first : Option (List ℕ))
         (commands : ℕ) → AreMarked names.now measured (bits_of marks.now) → AreNumbers names.now listed outputs.now
-        → lacks_by (known_by names.now measured listed members first commands) (role_of point) ≡ None) }
-    ensures err { IfErr result (λ stop. (measured listed members : List (List ℕ)) (first : Option (List ℕ))
+        → lacks_by (known_by names.now measured listed signal first commands) (role_of point) ≡ None) }
+    ensures err { IfErr result (λ stop. (measured listed signal : List (List ℕ)) (first : Option (List ℕ))
         (commands : ℕ) → AreMarked names.now measured (bits_of marks.now) → AreNumbers names.now listed outputs.now
-        → IsStop stop (lacks_by (known_by names.now measured listed members first commands) (role_of point))) }
+        → IsStop stop (lacks_by (known_by names.now measured listed signal first commands) (role_of point))) }
 {
     match (point.head, point.count) {
         (_, 0) => Err(Stop::Fault(Fault::LineEnds)),
@@ -205,7 +213,6 @@ fn end_words(names: &Names, marks: &[bool], outputs: &[u16], point: Point) -> Re
 
 /// Sets the mark of the qubit that a line with this record word measures.
 fn mark(marks: &mut [bool], head: Option<Head>, q: u16)
-    ensures long { length marks.new ≡ length marks.old }
     ensures set { q < length marks.old → bits_of marks.new ≡ marks_with head q (bits_of marks.old) }
     ensures other { is_measuring head ≡ false → marks.new ≡ marks.old }
 {
@@ -237,10 +244,10 @@ fn append<const H: usize>(
 /// Judges the end of a line and takes its command.
 pub(crate) fn end_command<const H: usize>(kept: &mut Reader<H>, point: Point) -> Result<(), Stop>
     ensures ok { OnOk result (Ends kept.old kept.new point) }
-    ensures err { IfErr result (λ stop. (measured listed members : List (List ℕ)) (first : Option (List ℕ))
+    ensures err { IfErr result (λ stop. (measured listed signal : List (List ℕ)) (first : Option (List ℕ))
         (commands : ℕ) → AreMarked kept.old.names measured (bits_of kept.old.marks)
         → AreNumbers kept.old.names listed kept.old.outputs.items
-        → IsStop stop (lacks_by (known_by kept.old.names measured listed members first commands) (role_of point))) }
+        → IsStop stop (lacks_by (known_by kept.old.names measured listed signal first commands) (role_of point))) }
 {
     if let Err(stop) = end_words(&kept.names, &kept.marks, kept.outputs.as_slice(), point) {
         return Err(stop);

@@ -46,9 +46,10 @@ fn prints_a_pattern(rt: HostRuntime) -> Result<(), Fail> {
 
 fn read(rt: &impl Abort, alloc: Global, text: &[u8]) -> Result<Pattern<4>, TextEnd> {
     assert!(rt; text.len() < 200);
+    let version = if text.starts_with(b"pattern 2") { 2 } else { 1 };
     let mut words = Words::new(text);
     words.next_line();
-    read_pattern(alloc, &mut words)
+    read_pattern(alloc, &mut words, version)
 }
 
 #[test]
@@ -76,6 +77,10 @@ fn reads_signals(rt: HostRuntime) -> Result<(), Fail> {
         (
             "pattern 1\nin a b\nn c\ne c b\nm a 0\nm b 0 s: a t: a\nx c\nz c b a\nout c\nend\n",
             "pattern 1\nin a b\nn c\ne c b\nm a 0\nm b 0 s: a t: a\nx c\nz c a b\nout c\nend\n",
+        ),
+        (
+            "pattern 2\nin a b c\nm a 0 t: !\nm b 0 s: ! a\nx c b ! a\nz c !\nout c\nend\n",
+            "pattern 2\nin a b c\nm a 0 t: !\nm b 0 s: a !\nx c a b !\nz c !\nout c\nend\n",
         ),
     ] {
         let pattern = read(&rt, rt.alloc(), text.as_bytes())
@@ -115,10 +120,20 @@ fn answers_first_faults(rt: HostRuntime) {
         ("pattern 1\nin a\nn a\nout a\nend\n", 12, 3, 3),
         ("pattern 1\nin a\nx\nout a\nend\n", 7, 3, 2),
         ("pattern 1\nin a b\nm a 0\nout\nend\n", 19, 4, 4),
+        ("pattern 1\nin a\nx a !\nout a\nend\n", 9, 3, 5),
+        ("pattern 2\nin a\nx a ! !\nout a\nend\n", 18, 3, 7),
+        ("pattern 2\nin a\nm a 0 !\nout\nend\n", 6, 3, 7),
     ] {
         let end = read(&rt, rt.alloc(), text.as_bytes())
             .err()
             .expect(&rt, text);
         assert_eq!(rt; end, TextEnd::Refused { code, line, column });
     }
+}
+
+#[test]
+fn laws_hold_for_eighths() {
+    canonical_texts_are_read::<4>();
+    canonical_texts_differ::<4>();
+    clean_texts_spell_patterns::<4>();
 }

@@ -1,11 +1,12 @@
-use Rattle.std.proofs.Common.{refl, sym, ◌∙◌}
+use Rattle.std.proofs.Common.{ap, sym, ◌∙◌}
+use Rattle.mc_pattern_text.specs.Judge.{rules_with}
 use Rattle.mc_pattern_text.proofs.KeepingWord.{known_of}
 use Rattle.mc_pattern_text.proofs.KeepingLine.{same_lacks, line_kept}
 use Rattle.mc_pattern_text.proofs.section.ReaderSection.end_line.Goals as goal
 
 pub returns-in-Ok-clause-ok : goal.returns-in-Ok-clause-ok
 returns-in-Ok-clause-ok g c = record {
-  same_rules = refl;
+  same_rules = ap rules_with c.in-Ok.ensures.ok.constants;
   taken = λ before here h e.
       let k = c.args.self.now in
       let ok = c.in-Ok.ensures.ok in
@@ -18,5 +19,5 @@ returns-in-Err-clause-err g c = λ before here h e.
     let k = c.args.self.now in
     let known = known_of k before here in
     rw (← same_lacks k before here c.args.point h e)
-    (c.in-Err.ensures.err known.measured known.listed known.members known.operand known.commands
+    (c.in-Err.ensures.err known.measured known.listed known.signal known.operand known.commands
     h.measured h.outputs)

@@ -1,10 +1,11 @@
-use Rattle.std.proofs.Common.{refl, sym, ◌∙◌}
+use Rattle.std.proofs.Common.{ap, sym, ◌∙◌}
+use Rattle.mc_pattern_text.specs.Judge.{rules_with}
 use Rattle.mc_pattern_text.proofs.KeepingWord.{same_judge, stands_at, word_kept}
 use Rattle.mc_pattern_text.proofs.section.ReaderSection.word.Goals as goal
 
 pub returns-in-Ok-clause-ok : goal.returns-in-Ok-clause-ok
 returns-in-Ok-clause-ok g c = record {
-  same_rules = refl;
+  same_rules = ap rules_with c.in-Ok.ensures.ok.constants;
   taken = λ before here h e.
       let k = c.args.self.now in
       let ok = c.in-Ok.ensures.ok in
