@@ -1,0 +1,5 @@
+pub mod Changes
+pub mod Kinds
+pub mod Kept
+pub mod Canonical
+pub mod Samples
