@@ -1,0 +1,10 @@
+pub mod CutLists
+pub mod JudgedOnce
+pub mod LedSteps
+pub mod MeasuresExchanged
+pub mod PairSums
+pub mod RuleCosts
+pub mod RuleReach
+pub mod SettledCosts
+pub mod StepCosts
+pub mod UsefulUses
