@@ -1,0 +1,12 @@
+pub mod ChosenRules
+pub mod ChosenUses
+pub mod CommandsAtPlace
+pub mod EqualLists
+pub mod EveryTraceJudged
+pub mod FittingLines
+pub mod Leading
+pub mod RoundLemmas
+pub mod Rows
+pub mod UsesServe
+pub mod Verdicts
+pub mod ValidOrNot

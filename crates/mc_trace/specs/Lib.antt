@@ -1,0 +1,5 @@
+pub mod Changes
+pub mod Choosing
+pub mod Fitting
+pub mod Judging
+pub mod Rounds
