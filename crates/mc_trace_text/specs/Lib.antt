@@ -1,0 +1,5 @@
+pub mod Words
+pub mod Traces
+pub mod Kept
+pub mod Canonical
+pub mod Samples
