@@ -1,7 +1,7 @@
 mod ListTests
 mod OddRows
 mod RuleLoops
-mod RowLemmas
+pub mod RowLemmas
 mod RuleLemmas
 mod FlowLaw
 mod RefuterLaw
@@ -9,3 +9,5 @@ mod OnlyNeighbours
 mod StuckLaw
 mod BoundLaw
 mod FewRows
+mod FewSets
+mod OwnBounds

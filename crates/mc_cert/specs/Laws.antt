@@ -16,6 +16,7 @@ use Rattle.mc_graph.specs.Refuters.{AreRefuterLines, IsRefuterOf}
 use Rattle.mc_cert.specs.RefuterRules.{refuter_lines}
 use Rattle.mc_cert.specs.StuckRules.{stuck_lines}
 use Rattle.mc_cert.specs.BoundRules.{AreBoundRows, AreApart, bound_lines, IsBoundOf}
+use Rattle.mc_cert.specs.Bounds.{BoundRows, AreOwn, IsBoundIn}
 
 -- rows break no rule exactly where they are a flow of the stated depth
 abbrev pub FlowRulesAreExact : Type 0
@@ -47,3 +48,9 @@ BoundRowsHold = (g : OpenGraph) (depth : ℕ) (layers : List LayerRow) (rows : L
     All (λ r. r.vertex < size g) layers → HaveOwnVertices (λ r. r.vertex) layers →
     first_broken 1 (bound_lines g depth layers rows) ≡ None →
     (sets : ℕ → Bits) (layer : ℕ → ℕ) → IsFlow g sets layer → depth ≤ depth_of g layer
+
+-- rows of a graph whose numbers are short fit it: they are few
+abbrev pub ShortBoundsAreFew : Type 0
+ShortBoundsAreFew = (g : OpenGraph) (b : BoundRows) → size g ≤ 256 → AreOwn b.layers b.rows →
+    All (λ r. r.vertex < size g) b.layers → AreBoundRows g b.rows → All (λ r. r.k ≤ 9999) b.rows →
+    IsBoundIn g b

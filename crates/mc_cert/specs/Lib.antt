@@ -4,3 +4,4 @@ pub mod RefuterRules
 pub mod Laws
 pub mod StuckRules
 pub mod BoundRules
+pub mod Bounds

@@ -9,15 +9,14 @@ ghost use Rattle.mc_model.specs.Bits.{Bits};
 ghost use Rattle.mc_model.specs.Graph.{size, is_output};
 ghost use Rattle.mc_model.specs.Flow.{IsFlow, depth_of};
 ghost use Rattle.mc_cert.specs.Rules.{least_broken, first_broken, before_first, breach_of};
-ghost use Rattle.mc_graph.specs.RowLists.{has_row, HaveOwnVertices};
-ghost use Rattle.mc_cert.specs.BoundRules.{AreBoundRows, stated_in, is_for, layer_rules};
+ghost use Rattle.mc_cert.specs.BoundRules.{AreBoundRows, stated_in, layer_rules};
 ghost use Rattle.mc_cert.specs.BoundRules.{lacks_layer, has_layer, all_layers_rules, is_behind};
 ghost use Rattle.mc_cert.specs.BoundRules.{odd_behind, keeping_rules, lacks_set, lacks_sets};
 ghost use Rattle.mc_cert.specs.BoundRules.{bound_end_rules, keeping_lines, bound_lines, IsBoundOf};
-ghost use Rattle.mc_cert.specs.BoundRules.{AreApart};
+ghost use Rattle.mc_cert.specs.Bounds.{IsBoundIn};
 
 use crate::odd::is_odd;
-use crate::rows::{BoundRow, LayerRow};
+use crate::rows::{Bound, BoundRow, LayerRow, has_row, has_set};
 use crate::verdict::Verdict;
 use mc_graph::OpenGraph;
 
@@ -28,12 +27,6 @@ fn stated(layers: &[LayerRow], v: u16) -> u32
         Some(row) => row.layer,
         None => 0,
     }
-}
-
-fn has_row(layers: &[LayerRow], v: u16) -> bool
-    ensures { result ≡ has_row (λ r. r.vertex) layers.now v }
-{
-    layers.iter().any(|row| v == row.vertex)
 }
 
 fn has_layer(layers: &[LayerRow], depth: u32) -> bool
@@ -180,12 +173,6 @@ fn least_in_row<const H: usize>(
     }
 }
 
-fn has_set(rows: &[BoundRow], k: u32, u: u16) -> bool
-    ensures { result ≡ list_any (is_for k u) rows.now }
-{
-    rows.iter().any(|row| k == row.k && u == row.vertex)
-}
-
 fn lacks_set(layers: &[LayerRow], rows: &[BoundRow], k: u32, u: u16) -> bool
     ensures { result ≡ lacks_set layers.now rows.now k u }
 {
@@ -314,23 +301,15 @@ fn judged<const H: usize>(
     check_behind(g, depth, layers, rows, layers.len() as u32 + 1)
 }
 
-/// Whether the rows are a bound of this depth.
-pub fn check_bound<const H: usize>(
-    g: &OpenGraph<H>,
-    depth: u32,
-    layers: &[LayerRow],
-    rows: &[BoundRow],
-) -> Verdict
-    requires layers { All (λ r. r.vertex < size g.now) layers.now }
-    requires own { HaveOwnVertices (λ r. r.vertex) layers.now }
-    requires rows { AreBoundRows g.now rows.now }
-    requires apart { AreApart rows.now }
-    requires few { length layers.now + length rows.now < 4294967295 }
+/// Whether the rows are a bound of the stated depth, below which then no flow of the graph has its own. It takes no memory.
+pub fn check_bound<const H: usize>(g: &OpenGraph<H>, b: &Bound) -> Verdict
+    requires { IsBoundIn g.now b.now }
     ensures first { breach_of result ≡
-        first_broken 1 (bound_lines g.now depth layers.now rows.now) }
-    ensures yes { (breach_of result ≡ None) ↔ IsBoundOf g.now depth layers.now rows.now }
+        first_broken 1 (bound_lines g.now b.now.depth b.now.layers b.now.rows) }
+    ensures yes { (breach_of result ≡ None) ↔
+        IsBoundOf g.now b.now.depth b.now.layers b.now.rows }
     ensures flows { (breach_of result ≡ None) → (sets : ℕ → Bits) (layer : ℕ → ℕ) →
-        IsFlow g.now sets layer → depth ≤ depth_of g.now layer }
+        IsFlow g.now sets layer → b.now.depth ≤ depth_of g.now layer }
 {
-    judged(g, depth, layers, rows)
+    judged(g, b.depth(), b.layer_rows(), b.set_rows())
 }

@@ -1,7 +1,7 @@
 //! What it says that no rule is broken.
 
 ghost use Rattle.mc_cert.specs.Laws.{BoundRowsHold, BoundRulesAreExact, FlowRulesAreExact};
-ghost use Rattle.mc_cert.specs.Laws.{RefuterRulesAreExact, StuckRulesAreExact};
+ghost use Rattle.mc_cert.specs.Laws.{RefuterRulesAreExact, ShortBoundsAreFew, StuckRulesAreExact};
 
 /// Rows break no rule of flows exactly where they are a flow of the graph, one for each vertex that
 /// is no output, and the stated depth is its depth.
@@ -27,4 +27,9 @@ pub fn bound_rules_are_exact()
 /// Rows that break no rule of bounds exclude every flow of lesser depth.
 pub fn bound_rows_hold()
     ensures { BoundRowsHold }
+{}
+
+/// The rows of a bound whose layers have at most four digits are few.
+pub fn short_bounds_are_few()
+    ensures { ShortBoundsAreFew }
 {}

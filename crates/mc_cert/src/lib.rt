@@ -14,9 +14,9 @@ pub use bound::check_bound;
 pub use flow::check_flow;
 pub use laws::{
     bound_rows_hold, bound_rules_are_exact, flow_rules_are_exact, refuter_rules_are_exact,
-    stuck_rules_are_exact,
+    short_bounds_are_few, stuck_rules_are_exact,
 };
 pub use refuter::check_refuter;
-pub use rows::{BoundRow, LayerRow};
+pub use rows::{Bound, BoundRow, LayerRow};
 pub use stuck::check_stuck;
 pub use verdict::Verdict;
