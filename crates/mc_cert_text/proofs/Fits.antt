@@ -8,20 +8,31 @@ use Rattle.mc_lex.specs.Lines.{Line}
 use Rattle.mc_model.specs.Graph.{OpenGraph, size}
 use Rattle.mc_model.specs.Signals.{IsRising}
 use Rattle.mc_graph.specs.RowLists.{HaveOwnVertices}
-use Rattle.mc_graph.specs.Flows.{FlowLine, FlowRows}
+use Rattle.mc_graph.specs.Flows.{FlowLine}
 use Rattle.mc_graph.specs.Refuters.{RefuterLine}
 use Rattle.mc_text.specs.declared.head.Head.{Head}
-use Rattle.mc_text.specs.declared.head.Head.TheVariants.{G, Y}
+use Rattle.mc_text.specs.declared.head.Head.TheVariants.{G, Y, L}
 use Rattle.mc_text.specs.Judged.{Place, first_in_section, section_lines}
 use Rattle.mc_rows.specs.declared.row.Row.{Row}
 use Rattle.mc_rows.specs.Rows.{rows_in}
-use Rattle.mc_rows.specs.Judge.{row_rules}
 use Rattle.mc_rows.specs.Kept.{has_name}
-use Rattle.mc_cert_text.specs.Certs.{IsCertOf, flow, noflow, nocausal}
-use Rattle.mc_cert_text.specs.Tables.{flow_shape, is_flow_row, refuter_shape, is_refuter_row}
+use Rattle.mc_lex.specs.declared.kind.Kind.{Kind}
+use Rattle.mc_lex.specs.declared.kind.Kind.TheVariants.{Circuit, Pattern, Graph, Change, Flow}
+use Rattle.mc_lex.specs.declared.kind.Kind.TheVariants.{NoFlow, NoCausal, Trace, Least, Gates}
+use Rattle.mc_graph.specs.RowLists.{AreRowsOf}
+use Rattle.mc_cert.specs.declared.rows.LayerRow.{LayerRow}
+use Rattle.mc_cert.specs.declared.rows.BoundRow.{BoundRow}
+use Rattle.mc_cert.specs.Bounds.{AreOwn}
+use Rattle.mc_cert.specs.Laws.{ShortBoundsAreFew}
+use Rattle.mc_cert_text.specs.Certs.{PlainCert, IsCertOf, HasApartRows, flow, noflow, nocausal}
+use Rattle.mc_cert_text.specs.Certs.{least}
+use Rattle.mc_cert_text.specs.Tables.{flow_shape, is_flow_row, refuter_shape, is_set_row}
+use Rattle.mc_cert_text.specs.Tables.{least_shape, is_layer_row}
 use Rattle.mc_cert_text.specs.Value.{flow_in, flow_lines_in, flow_line, refuter_in, refuter_line}
-use Rattle.mc_cert_text.specs.Value.{stuck_in}
-use Rattle.mc_cert_text.specs.Kinds.{flow_kind, refuter_kind, stuck_kind}
+use Rattle.mc_cert_text.specs.Value.{stuck_in, least_in, layer_line, bound_line, layer_lines_in}
+use Rattle.mc_cert_text.specs.Value.{bound_lines_in, cert_by}
+use Rattle.mc_cert_text.specs.Kinds.{flow_kind, refuter_kind, stuck_kind, least_kind, cert_kind}
+use Rattle.mc_cert_text.specs.Kinds.{IsCertKind, shape_in, cert_rules, cert_in}
 use Rattle.mc_cert_text.proofs.CleanRows.{IsFit, rows_fit}
 
 -- what holds of the lines that rows of a record word say
@@ -44,7 +55,7 @@ flow_named None e = absurd (cc e)
 flow_named (Some G) e = refl
 flow_named (Some _) e = absurd (cc e)
 
-refuter_named : (h : Option Head) → is_refuter_row h ≡ true → has_name (refuter_shape h) ≡ true
+refuter_named : (h : Option Head) → is_set_row h ≡ true → has_name (refuter_shape h) ≡ true
 refuter_named None e = absurd (cc e)
 refuter_named (Some Y) e = refl
 refuter_named (Some _) e = absurd (cc e)
@@ -95,15 +106,15 @@ refuter_of_rows g rows all own =
     let fit = IsFit (size g) refuter_kind in
     record {
       inside = record {
-        vertices = lines_all (λ (r : RefuterLine). r.vertex < size g) refuter_line is_refuter_row
+        vertices = lines_all (λ (r : RefuterLine). r.vertex < size g) refuter_line is_set_row
             fit (λ row e f. f.name (refuter_named row.head e)) rows all;
         members = lines_all (λ (r : RefuterLine). All (λ k. k < size g) r.set) refuter_line
-            is_refuter_row fit (λ row e f. f.members) rows all;
+            is_set_row fit (λ row e f. f.members) rows all;
       };
       numbers = tt;
       own = (
         own,
-        lines_all (λ (r : RefuterLine). IsRising r.set) refuter_line is_refuter_row fit
+        lines_all (λ (r : RefuterLine). IsRising r.set) refuter_line is_set_row fit
             (λ row e f. f.rising) rows all,
       );
     }
@@ -122,32 +133,87 @@ stuck_of_rows g rows all =
     let last = last_set (size g) [] rows (All-nil (λ (k : ℕ). k < size g)) tt all in
     record { inside = last.0; numbers = tt; own = last.1 }
 
--- the certificates that lines without a fault spell
-pub flow_fits : (g : OpenGraph) (f : FlowRows) (lines : List Line) (end : Place)
-    → first_in_section (row_rules flow_kind g.names) [] lines end ≡ None
-    → f ≡ flow_in (rows_in flow_shape g.names (section_lines lines))
-    → HaveOwnVertices (λ r. r.vertex) f.rows → IsCertOf g (flow f)
-flow_fits g f lines end clean value own =
-    let rows = rows_in flow_shape g.names (section_lines lines) in
-    let own' = subst (λ (h : FlowRows). HaveOwnVertices (λ r. r.vertex) h.rows) value own in
-    subst (λ (h : FlowRows). IsCertOf g (flow h)) (sym value)
-    (flow_of_rows g rows (rows_fit flow_kind g.names [] lines end clean) own')
+record FitBound (n : ℕ) (rows : List Row) : Type 0 where
+  vertices : All (λ r. r.vertex < n) (layer_lines_in rows)
+  layers : All (λ r. r.layer ≤ 9999) (layer_lines_in rows)
+  sets : AreRowsOf n (λ r. r.vertex) (λ r. r.set) (bound_lines_in rows)
+  numbers : All (λ r. r.k ≤ 9999) (bound_lines_in rows)
+  rising : All (λ r. IsRising r.set) (bound_lines_in rows)
 
-pub refuter_fits : (g : OpenGraph) (r : List RefuterLine) (lines : List Line) (end : Place)
-    → first_in_section (row_rules refuter_kind g.names) [] lines end ≡ None
-    → r ≡ refuter_in (rows_in refuter_shape g.names (section_lines lines))
-    → HaveOwnVertices (λ l. l.vertex) r → IsCertOf g (noflow r)
-refuter_fits g r lines end clean value own =
-    let rows = rows_in refuter_shape g.names (section_lines lines) in
-    let own' = subst (λ (h : List RefuterLine). HaveOwnVertices (λ l. l.vertex) h) value own in
-    subst (λ (h : List RefuterLine). IsCertOf g (noflow h)) (sym value)
-    (refuter_of_rows g rows (rows_fit refuter_kind g.names [] lines end clean) own')
+layer_named : (h : Option Head) → is_layer_row h ≡ true → has_name (least_shape h) ≡ true
+layer_named None e = absurd (cc e)
+layer_named (Some L) e = refl
+layer_named (Some _) e = absurd (cc e)
 
-pub stuck_fits : (g : OpenGraph) (set : List ℕ) (lines : List Line) (end : Place)
-    → first_in_section (row_rules stuck_kind g.names) [] lines end ≡ None
-    → set ≡ stuck_in (rows_in stuck_kind.shape g.names (section_lines lines))
-    → IsCertOf g (nocausal set)
-stuck_fits g set lines end clean value =
-    let rows = rows_in stuck_kind.shape g.names (section_lines lines) in
-    subst (λ (s : List ℕ). IsCertOf g (nocausal s)) (sym value)
-    (stuck_of_rows g rows (rows_fit stuck_kind g.names [] lines end clean))
+bound_named : (h : Option Head) → is_set_row h ≡ true → has_name (least_shape h) ≡ true
+bound_named None e = absurd (cc e)
+bound_named (Some Y) e = refl
+bound_named (Some _) e = absurd (cc e)
+
+fit_bound : (n : ℕ) (rows : List Row) → AllByRecursion (IsFit n least_kind) rows
+    → FitBound n rows
+fit_bound n rows all =
+    let fit = IsFit n least_kind in
+    record {
+      vertices = lines_all (λ (r : LayerRow). r.vertex < n) layer_line is_layer_row fit
+          (λ row e f. f.name (layer_named row.head e)) rows all;
+      layers = lines_all (λ (r : LayerRow). r.layer ≤ 9999) layer_line is_layer_row fit
+          (λ row e f. f.number) rows all;
+      sets = record {
+        vertices = lines_all (λ (r : BoundRow). r.vertex < n) bound_line is_set_row fit
+            (λ row e f. f.name (bound_named row.head e)) rows all;
+        members = lines_all (λ (r : BoundRow). All (λ k. k < n) r.set) bound_line is_set_row fit
+            (λ row e f. f.members) rows all;
+      };
+      numbers = lines_all (λ (r : BoundRow). r.k ≤ 9999) bound_line is_set_row fit
+          (λ row e f. f.number) rows all;
+      rising = lines_all (λ (r : BoundRow). IsRising r.set) bound_line is_set_row fit
+          (λ row e f. f.rising) rows all;
+    }
+
+bound_fits : ShortBoundsAreFew → (g : OpenGraph) → size g ≤ 256 → (depth : ℕ) (rows : List Row)
+    → depth ≤ 9999 → FitBound (size g) rows → AreOwn (layer_lines_in rows) (bound_lines_in rows)
+    → IsCertOf g (least (record {
+      depth = depth;
+      layers = layer_lines_in rows;
+      rows = bound_lines_in rows;
+    }))
+bound_fits few g small depth rows short fit own = record {
+  inside = few g _ small own fit.vertices fit.sets fit.numbers;
+  numbers = record { depth = short; layers = fit.layers; rows = fit.numbers };
+  own = (own, fit.rising);
+}
+
+least_of_rows : ShortBoundsAreFew → (g : OpenGraph) → size g ≤ 256 → (rows : List Row)
+    → AllByRecursion (IsFit (size g) least_kind) rows
+    → AreOwn (least_in rows).layers (least_in rows).rows → IsCertOf g (least (least_in rows))
+least_of_rows few g small [] all own =
+    bound_fits few g small 0 [] (omega arith) (fit_bound (size g) [] tt) own
+least_of_rows few g small (row ∷ rows) all own =
+    bound_fits few g small row.number rows all.0.number (fit_bound (size g) rows all.1) own
+
+-- the certificate of a kind that rows say
+fits_by : ShortBoundsAreFew → (g : OpenGraph) → size g ≤ 256 → (kind : Kind) (rows : List Row)
+    → IsCertKind kind → AllByRecursion (IsFit (size g) (cert_kind kind)) rows
+    → HasApartRows (cert_by kind rows) → IsCertOf g (cert_by kind rows)
+fits_by few g small Flow rows k all apart = flow_of_rows g rows all apart
+fits_by few g small NoFlow rows k all apart = refuter_of_rows g rows all apart
+fits_by few g small NoCausal rows k all apart = stuck_of_rows g rows all
+fits_by few g small Least rows k all apart = least_of_rows few g small rows all apart
+fits_by few g small Circuit rows k all apart = absurd k
+fits_by few g small Pattern rows k all apart = absurd k
+fits_by few g small Graph rows k all apart = absurd k
+fits_by few g small Change rows k all apart = absurd k
+fits_by few g small Trace rows k all apart = absurd k
+fits_by few g small Gates rows k all apart = absurd k
+
+-- the certificate that lines without a fault spell
+pub cert_fits : ShortBoundsAreFew → (g : OpenGraph) → size g ≤ 256 → (kind : Kind)
+    (lines : List Line) (end : Place) → IsCertKind kind
+    → first_in_section (cert_rules kind g.names) [] lines end ≡ None → (cert : PlainCert)
+    → cert ≡ cert_in kind g.names (section_lines lines) → HasApartRows cert → IsCertOf g cert
+cert_fits few g small kind lines end k clean cert value apart =
+    let rows = rows_in (shape_in kind) g.names (section_lines lines) in
+    subst (IsCertOf g) (sym value)
+    (fits_by few g small kind rows k (rows_fit (cert_kind kind) g.names [] lines end clean)
+    (subst HasApartRows value apart))

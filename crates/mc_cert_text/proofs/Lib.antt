@@ -1,4 +1,6 @@
 pub mod Printing
+pub mod OwnRows
+pub mod SoundBounds
 pub mod Sound
 pub mod NoLimits
 pub mod CleanRows

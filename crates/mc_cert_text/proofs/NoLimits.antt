@@ -20,11 +20,15 @@ use Rattle.mc_rows.specs.declared.row.Role.{Role}
 use Rattle.mc_rows.specs.declared.row.Role.TheVariants as role
 use Rattle.mc_rows.specs.Rows.{is_one, has_one, named, rows_in, row_in}
 use Rattle.mc_rows.specs.Rows.{members_in}
-use Rattle.mc_rows.specs.Judge.{Kind, judge_by, lacks_by, row_rules}
+use Rattle.mc_rows.specs.Judge.{Kind as RowKind, judge_by, lacks_by, row_rules}
 use Rattle.mc_graph.specs.RowLists.{has_row}
 use Rattle.mc_graph.specs.Refuters.{refuted_in}
-use Rattle.mc_cert_text.specs.Value.{flow_in, refuter_in}
-use Rattle.mc_cert_text.specs.Kinds.{flow_kind, refuter_kind, stuck_kind}
+use Rattle.mc_lex.specs.declared.kind.Kind.{Kind}
+use Rattle.mc_lex.specs.declared.kind.Kind.TheVariants.{Circuit, Pattern, Graph, Change, Flow}
+use Rattle.mc_lex.specs.declared.kind.Kind.TheVariants.{NoFlow, NoCausal, Trace, Least, Gates}
+use Rattle.mc_cert_text.specs.Value.{flow_in, refuter_in, least_in}
+use Rattle.mc_cert_text.specs.Kinds.{IsCertKind, flow_kind, refuter_kind, stuck_kind, least_kind}
+use Rattle.mc_cert_text.specs.Kinds.{has_bound_row, cert_rules}
 
 abbrev IsFault : Option Judgement → Type 0
 IsFault judged = (which found : ℕ) → judged ≡ Some (limit which found) → ⊥
@@ -113,7 +117,7 @@ either_fault false a b free none = none
 twice_fault : (t : Bool) → IsFault (broken ((t, RowTwice) ∷ []))
 twice_fault t = broken_fault ((t, RowTwice) ∷ [])
 
-module _ (kind : Kind) (names : List Name)
+module _ (kind : RowKind) (names : List Name)
     (head_free : (rows : List Row) (h : Option Head) → IsFault (kind.bars.head rows h))
     (named_free : (rows : List Row) (h : Option Head) (number q : ℕ)
     → IsFault (kind.bars.named rows h number q))
@@ -162,25 +166,27 @@ module _ (kind : Kind) (names : List Name)
         lacks = λ before here. lacks_fault _;
       }))
 
-pub flow_no_limit : (names : List Name) (lines : List Line) (last : Place) (which found : ℕ)
-    → IsEnd (end.Limit which found) (first_in_section (row_rules flow_kind names) [] lines last)
-    → ⊥
-flow_no_limit names lines last which found =
+pub cert_no_limit : (kind : Kind) (names : List Name) (lines : List Line) (last : Place)
+    (which found : ℕ) → IsCertKind kind
+    → IsEnd (end.Limit which found) (first_in_section (cert_rules kind names) [] lines last) → ⊥
+cert_no_limit Flow names lines last which found k =
     rows_no_limit flow_kind names (λ rows h. none_fault) (λ rows h number q.
     twice_fault (has_row (λ r. r.vertex) (flow_in rows).rows q))
     (λ rows q. none_fault) lines last which found
-
-pub refuter_no_limit : (names : List Name) (lines : List Line) (last : Place) (which found : ℕ)
-    → IsEnd (end.Limit which found) (first_in_section (row_rules refuter_kind names) [] lines last)
-    → ⊥
-refuter_no_limit names lines last which found =
+cert_no_limit NoFlow names lines last which found k =
     rows_no_limit refuter_kind names (λ rows h. none_fault) (λ rows h number q.
     twice_fault (refuted_in (refuter_in rows) q))
     (λ rows q. none_fault) lines last which found
-
-pub stuck_no_limit : (names : List Name) (lines : List Line) (last : Place) (which found : ℕ)
-    → IsEnd (end.Limit which found) (first_in_section (row_rules stuck_kind names) [] lines last)
-    → ⊥
-stuck_no_limit names lines last which found =
+cert_no_limit NoCausal names lines last which found k =
     rows_no_limit stuck_kind names (λ rows h. none_fault) (λ rows h number q. twice_fault false)
     (λ rows q. none_fault) lines last which found
+cert_no_limit Least names lines last which found k =
+    rows_no_limit least_kind names (λ rows h. none_fault) (λ rows h number q.
+    twice_fault (has_bound_row (least_in rows) h number q))
+    (λ rows q. none_fault) lines last which found
+cert_no_limit Circuit names lines last which found k = absurd k
+cert_no_limit Pattern names lines last which found k = absurd k
+cert_no_limit Graph names lines last which found k = absurd k
+cert_no_limit Change names lines last which found k = absurd k
+cert_no_limit Trace names lines last which found k = absurd k
+cert_no_limit Gates names lines last which found k = absurd k

@@ -59,3 +59,35 @@ lines_written line row rows header first last headed begun with_rows whole h b r
     rw (w, r, b, h, map_after line row rows, end, append-nil (line_text last))
     (append_assoc (header ++ first) (text_of lines) (line_text last)
     ∙ append_assoc header first (text_of lines ++ line_text last))
+
+both_lists : {A B C : Type 0} (line : C → Line) (row : A → C) (rows : List A) (other : B → C)
+    (others : List B) (last : Line)
+    → text_of (map (λ r. line (row r)) rows) ++ text_of (map line (map other others) ++ last ∷ [])
+    ≡ text_of (map line (map row rows ++ map other others) ++ last ∷ [])
+both_lists line row rows other others last =
+    let front = map line (map row rows) in
+    let behind = map line (map other others) in
+    sym (rw (map-append line (map row rows) (map other others))
+    (ap text_of (append_assoc front behind (last ∷ []))
+    ∙ flat_map-append line_text front (behind ++ last ∷ [])
+    ∙ ap (λ (ls : List Line). text_of ls ++ text_of (behind ++ last ∷ []))
+    (map_after line row rows)))
+
+-- what is written, part by part, where there are two lists
+pub two_lists_written : {A B C : Type 0} (line : C → Line) (row : A → C) (rows : List A)
+    (other : B → C) (others : List B) (header first : List ℕ) (last : Line)
+    (headed begun with_rows with_others whole : List ℕ)
+    → headed ≡ header → begun ≡ headed ++ first
+    → with_rows ≡ begun ++ text_of (map (λ r. line (row r)) rows)
+    → with_others ≡ with_rows ++ text_of (map (λ r. line (other r)) others)
+    → whole ≡ with_others ++ line_text last
+    → whole ≡ header
+    ++ (first ++ text_of (map line (map row rows ++ map other others) ++ last ∷ []))
+two_lists_written line row rows other others header first last headed begun with_rows with_others
+    whole h b r o w =
+    let made = text_of (map (λ r. line (row r)) rows) in
+    lines_written line other others header (first ++ made) last headed with_rows with_others whole h
+    (r ∙ ap (λ (bytes : List ℕ). bytes ++ made) b ∙ append_assoc headed first made) o w
+    ∙ ap (λ (bytes : List ℕ). header ++ bytes)
+    (append_assoc first made (text_of (map line (map other others) ++ last ∷ []))
+    ∙ ap (λ (bytes : List ℕ). first ++ bytes) (both_lists line row rows other others last))

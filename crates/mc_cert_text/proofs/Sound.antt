@@ -1,33 +1,32 @@
 -- The rows of a certificate that fits a graph are sound, and say the certificate.
-use Rattle.std.proofs.Common.{◌≡◌, ℕ, ◌≤◌, ◌<◌, All, Bool, true, false, ◌||◌, List, [], ◌∷◌, ◌++◌}
+use Rattle.std.proofs.Common.{◌≡◌, ℕ, ◌≤◌, ◌<◌, All, true, List, [], ◌∷◌, ◌++◌}
 use Rattle.std.proofs.Common.{map}
-use Rattle.std.proofs.Common.{length, drop, refl, sym, ap, ◌∙◌, arith, append_assoc, nat_eq}
+use Rattle.std.proofs.Common.{length, drop, refl, sym, ap, ◌∙◌, arith, append_assoc}
 use Rattle.std.proofs.Common.{Option, Some, None, slice_index_or}
-use Rattle.std.specs.List.{IsDistinct, AllByRecursion}
-use Rattle.std.proofs.lemmas.Bool.Decides.{nat_tests}
 use Rattle.std.proofs.lemmas.List.{map-append}
 use Rattle.std.proofs.lemmas.List.Elements.{All-nil, All-head, All-tail}
 use Rattle.mc_lex.specs.Lines.{lines_of}
 use Rattle.mc_model.specs.Names.{Name}
 use Rattle.mc_model.specs.Signals.{IsRising}
 use Rattle.mc_model.specs.Graph.{OpenGraph, IsOpenGraph}
-use Rattle.mc_graph.specs.RowLists.{has_row, AreRowsOf, HaveOwnVertices}
+use Rattle.mc_graph.specs.RowLists.{AreRowsOf, HaveOwnVertices}
 use Rattle.mc_graph.specs.Flows.{FlowLine}
 use Rattle.mc_graph.specs.Refuters.{RefuterLine}
 use Rattle.mc_text.specs.declared.head.Head.{Head}
 use Rattle.mc_text.specs.declared.head.Head.TheVariants.{Depth, G, Y, B, End}
-use Rattle.mc_text.specs.declared.fault.Fault.TheVariants.{RowTwice}
 use Rattle.mc_text.specs.Judged.{section_lines}
-use Rattle.mc_text.specs.Rules.{broken}
 use Rattle.mc_rows.specs.declared.row.Shape.TheVariants.{Bare}
 use Rattle.mc_rows.specs.declared.row.Row.{Row}
 use Rattle.mc_rows.specs.Written.{AreSound, IsWrittenHeader}
-use Rattle.mc_cert_text.specs.Certs.{PlainCert, flow, noflow, nocausal, kind_of_cert, IsCertOf}
+use Rattle.mc_cert_text.specs.Certs.{PlainCert, flow, noflow, nocausal, least, kind_of_cert}
+use Rattle.mc_cert_text.specs.Certs.{IsCertOf}
 use Rattle.mc_cert_text.specs.Tables.{follows_in_flow, follows_in_refuter}
 use Rattle.mc_cert_text.specs.Value.{flow_lines_in, refuter_in, cert_by}
 use Rattle.mc_cert_text.specs.Kinds.{flow_kind, refuter_kind, cert_kind, cert_in}
 use Rattle.mc_cert_text.specs.Canonical.{depth_row, flow_row, refuter_row, cert_rows, cert_header}
 use Rattle.mc_cert_text.specs.Canonical.{cert_text}
+use Rattle.mc_cert_text.proofs.OwnRows.{not_twice}
+use Rattle.mc_cert_text.proofs.SoundBounds.{bound_back, bound_sound}
 
 -- the rows say the certificate
 flow_back : (rows : List FlowLine) → flow_lines_in (map flow_row rows) ≡ rows
@@ -44,34 +43,7 @@ cert_back (flow f) =
     ap (λ (rs : List FlowLine). flow (record { depth = f.depth; rows = rs })) (flow_back f.rows)
 cert_back (noflow rows) = ap noflow (refuter_back rows)
 cert_back (nocausal set) = refl
-
--- a vertex that has one row has none before it
-at_row : {A : Type 0} (P : ℕ → Type 0) (vertex : A → ℕ) (before : List A) (r : A) (rows : List A)
-    → AllByRecursion P (map vertex (before ++ r ∷ rows)) → P (vertex r)
-at_row P vertex [] r rows all = all.0
-at_row P vertex (b ∷ before) r rows all = at_row P vertex before r rows all.1
-
-own_free : {A : Type 0} (vertex : A → ℕ) (before : List A) (r : A) (rows : List A)
-    → HaveOwnVertices vertex (before ++ r ∷ rows) → has_row vertex before (vertex r) ≡ false
-unfolding IsDistinct
-own_free vertex [] r rows own = refl
-own_free vertex (b ∷ before) r rows own =
-    neither (nat_eq (vertex r) (vertex b)) (has_row vertex before (vertex r))
-    (turned (vertex b) (vertex r)
-    (at_row (λ v. nat_eq (vertex b) v ≡ false) vertex before r rows own.0))
-    (own_free vertex before r rows own.1)
-  where
-    neither : (a b : Bool) → a ≡ false → b ≡ false → (a || b) ≡ false
-    neither a b e f = rw (e, f) refl
-
-    turned : (v w : ℕ) → nat_eq v w ≡ false → nat_eq w v ≡ false
-    turned v w e = grind (arith, nat_tests)
-
-not_twice : {A : Type 0} (vertex : A → ℕ) (found before : List A) (r : A) (rows : List A)
-    → found ≡ before → HaveOwnVertices vertex (before ++ r ∷ rows)
-    → broken ((has_row vertex found (vertex r), RowTwice) ∷ []) ≡ None
-not_twice vertex found before r rows e own =
-    let free = own_free vertex before r rows own in rw (e, free) refl
+cert_back (least b) = ap least (bound_back b)
 
 -- rows of a flow behind others
 flow_sound : (names : List Name) (last : Option Head) (depth : ℕ) (before rows : List FlowLine)
@@ -189,16 +161,38 @@ cert_sound g (nocausal set) fits = (
   },
   (refl, refl),
 )
+cert_sound g (least b) fits = (
+  record {
+    head = Depth;
+    head_is = refl;
+    goes = refl;
+    follows = refl;
+    opens = refl;
+    number = fits.numbers.depth;
+    is_named = record {
+      name = λ e. absurd (cc e);
+      members = All-nil (λ (k : ℕ). k < length g.names);
+    };
+    named = λ e. absurd (cc e);
+    listed = λ q e. refl;
+    rising = tt;
+    constant = λ e. absurd (cc e);
+    plain = (refl, refl, refl);
+  },
+  bound_sound g b fits.inside fits.numbers fits.own.0 fits.own.1,
+)
 
 pub end_bare : (cert : PlainCert) → (cert_kind (kind_of_cert cert)).shape (Some End) ≡ Bare
 end_bare (flow f) = refl
 end_bare (noflow rows) = refl
 end_bare (nocausal set) = refl
+end_bare (least b) = refl
 
 pub header_written : (cert : PlainCert) → IsWrittenHeader (cert_header cert)
 header_written (flow f) = refl
 header_written (noflow rows) = refl
 header_written (nocausal set) = refl
+header_written (least b) = refl
 
 pub same_back : (cert : PlainCert) (rows : List Row) → rows ≡ cert_rows cert
     → cert_by (kind_of_cert cert) rows ≡ cert
@@ -242,3 +236,18 @@ same_cert back g c d valid fits fits' e = by_kind c d fits fits' e
         let byte : 110 ≡ 102 = ap (byte_at 0) e in absurd (omega (arith, byte))
     by_kind (nocausal set) (noflow rows) fits fits' e =
         let byte : 99 ≡ 102 = ap (byte_at 2) e in absurd (omega (arith, byte))
+    by_kind (least b) (least other) fits fits' e =
+        sym (back g (least b) valid fits) ∙ ap (read (least b)) e
+        ∙ back g (least other) valid fits'
+    by_kind (least b) (flow f) fits fits' e =
+        let byte : 108 ≡ 102 = ap (byte_at 0) e in absurd (omega (arith, byte))
+    by_kind (least b) (noflow rows) fits fits' e =
+        let byte : 108 ≡ 110 = ap (byte_at 0) e in absurd (omega (arith, byte))
+    by_kind (least b) (nocausal set) fits fits' e =
+        let byte : 108 ≡ 110 = ap (byte_at 0) e in absurd (omega (arith, byte))
+    by_kind (flow f) (least b) fits fits' e =
+        let byte : 102 ≡ 108 = ap (byte_at 0) e in absurd (omega (arith, byte))
+    by_kind (noflow rows) (least b) fits fits' e =
+        let byte : 110 ≡ 108 = ap (byte_at 0) e in absurd (omega (arith, byte))
+    by_kind (nocausal set) (least b) fits fits' e =
+        let byte : 110 ≡ 108 = ap (byte_at 0) e in absurd (omega (arith, byte))

@@ -1,11 +1,16 @@
--- The kinds of certificates' sections: their tables, the rule that a vertex has one row, and the
+-- The kinds of certificates' sections: their tables, the rule that no two rows are alike, and the
 -- certificate that lines spell.
-use Rattle.std.specs.Prelude.{ℕ, Bool, false, List, [], ◌∷◌, None, ⊤}
+use Rattle.std.specs.Prelude.{ℕ, Bool, false, List, [], ◌∷◌, Option, None, Some, ⊤}
+use Rattle.std.specs.List.{list_any}
 use Rattle.mc_lex.specs.declared.kind.Kind.{Kind}
-use Rattle.mc_lex.specs.declared.kind.Kind.TheVariants.{Flow, NoFlow, NoCausal}
+use Rattle.mc_lex.specs.declared.kind.Kind.TheVariants.{Flow, NoFlow, NoCausal, Least}
 use Rattle.mc_model.specs.Names.{Name}
 use Rattle.mc_graph.specs.RowLists.{has_row}
 use Rattle.mc_graph.specs.Refuters.{refuted_in}
+use Rattle.mc_cert.specs.BoundRules.{is_for}
+use Rattle.mc_cert.specs.Bounds.{BoundRows}
+use Rattle.mc_text.specs.declared.head.Head.{Head}
+use Rattle.mc_text.specs.declared.head.Head.TheVariants.{L, Y}
 use Rattle.mc_text.specs.declared.fault.Fault.TheVariants.{RowTwice}
 use Rattle.mc_text.specs.Judged.{Lines, Rules}
 use Rattle.mc_text.specs.Rules.{broken}
@@ -16,20 +21,23 @@ use Rattle.mc_rows.specs.Judge.{Bars, row_rules}
 use Rattle.mc_cert_text.specs.Certs.{PlainCert}
 use Rattle.mc_cert_text.specs.Tables.{follows_in_flow, flow_shape, follows_in_refuter}
 use Rattle.mc_cert_text.specs.Tables.{refuter_shape, follows_in_stuck, stuck_shape}
-use Rattle.mc_cert_text.specs.Value.{flow_in, refuter_in, cert_by}
+use Rattle.mc_cert_text.specs.Tables.{follows_in_least, least_shape}
+use Rattle.mc_cert_text.specs.Value.{flow_in, refuter_in, least_in, cert_by}
 
 -- the kinds of section that are certificates
 abbrev pub IsCertKind : Kind → Type 0
 IsCertKind Flow = ⊤
 IsCertKind NoFlow = ⊤
 IsCertKind NoCausal = ⊤
+IsCertKind Least = ⊤
 IsCertKind _ = ⊥
 
--- a vertex that has a row among those before may not have a second one
-abbrev pub one_row_each : (List Row → ℕ → Bool) → Bars
+-- what has a row among those before, by its record word, its number and its vertex, may not have a
+-- second one
+abbrev pub one_row_each : (List Row → Option Head → ℕ → ℕ → Bool) → Bars
 one_row_each has = record {
   head = λ rows head. None;
-  named = λ rows head number q. broken ((has rows q, RowTwice) ∷ []);
+  named = λ rows head number q. broken ((has rows head number q, RowTwice) ∷ []);
   listed = λ rows q. None;
 }
 
@@ -37,7 +45,7 @@ abbrev pub flow_kind : judge.Kind
 flow_kind = record {
   follows = follows_in_flow;
   shape = flow_shape;
-  bars = one_row_each (λ rows. has_row (λ r. r.vertex) (flow_in rows).rows);
+  bars = one_row_each (λ rows head number. has_row (λ r. r.vertex) (flow_in rows).rows);
   second = false;
 }
 
@@ -45,7 +53,7 @@ abbrev pub refuter_kind : judge.Kind
 refuter_kind = record {
   follows = follows_in_refuter;
   shape = refuter_shape;
-  bars = one_row_each (λ rows. refuted_in (refuter_in rows));
+  bars = one_row_each (λ rows head number. refuted_in (refuter_in rows));
   second = false;
 }
 
@@ -53,13 +61,28 @@ abbrev pub stuck_kind : judge.Kind
 stuck_kind = record {
   follows = follows_in_stuck;
   shape = stuck_shape;
-  bars = one_row_each (λ rows q. false);
+  bars = one_row_each (λ rows head number q. false);
+  second = false;
+}
+
+-- whether a bound has a layer of a vertex, or a set for a layer and a vertex
+abbrev pub has_bound_row : BoundRows → Option Head → ℕ → ℕ → Bool
+has_bound_row b (Some L) number q = has_row (λ r. r.vertex) b.layers q
+has_bound_row b (Some Y) number q = list_any (is_for number q) b.rows
+has_bound_row b _ number q = false
+
+abbrev pub least_kind : judge.Kind
+least_kind = record {
+  follows = follows_in_least;
+  shape = least_shape;
+  bars = one_row_each (λ rows. has_bound_row (least_in rows));
   second = false;
 }
 
 abbrev pub cert_kind : Kind → judge.Kind
 cert_kind Flow = flow_kind
 cert_kind NoFlow = refuter_kind
+cert_kind Least = least_kind
 cert_kind _ = stuck_kind
 
 abbrev pub shape_in : Kind → Shapes

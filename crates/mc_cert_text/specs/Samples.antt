@@ -2,14 +2,14 @@
 -- certificate can meet, with its place, and what is written.
 use Rattle.std.specs.Prelude.{◌≡◌, ℕ, List, [], ◌∷◌, codes, Option, None, Some, refl}
 use Rattle.mc_lex.specs.declared.kind.Kind.{Kind}
-use Rattle.mc_lex.specs.declared.kind.Kind.TheVariants.{Flow, NoFlow, NoCausal}
+use Rattle.mc_lex.specs.declared.kind.Kind.TheVariants.{Flow, NoFlow, NoCausal, Least}
 use Rattle.mc_lex.specs.Lines.{lines_of, end_of}
 use Rattle.mc_text.specs.declared.fault.Fault.{Fault}
 use Rattle.mc_text.specs.declared.fault.Fault.TheVariants.{NotFixed, LineEnds, Surplus, NotName}
 use Rattle.mc_text.specs.declared.fault.Fault.TheVariants.{NotNumber, NotDefined, ListedTwice}
 use Rattle.mc_text.specs.declared.fault.Fault.TheVariants.{RowTwice, TextEnds}
 use Rattle.mc_text.specs.Judged.{Judgement, fault, Place, first_in_section, section_lines}
-use Rattle.mc_cert_text.specs.Certs.{PlainCert, flow, noflow, nocausal}
+use Rattle.mc_cert_text.specs.Certs.{PlainCert, flow, noflow, nocausal, least}
 use Rattle.mc_cert_text.specs.Kinds.{cert_rules, cert_in}
 use Rattle.mc_cert_text.specs.Canonical.{cert_text}
 
@@ -42,6 +42,14 @@ spells_refuter = refl
 
 pub spells_stuck : Spells NoCausal (codes "b c a\nend\n") (nocausal (0 ∷ 2 ∷ []))
 spells_stuck = refl
+
+pub spells_bound : Spells Least (codes "depth 2\nl 01 b\nl 2 a\ny 1 a : b a\nend\n")
+    (least (record {
+      depth = 2;
+      layers = record { vertex = 1; layer = 1 } ∷ record { vertex = 0; layer = 2 } ∷ [];
+      rows = record { k = 1; vertex = 0; set = 0 ∷ 1 ∷ [] } ∷ [];
+    }))
+spells_bound = refl
 
 pub written : cert_text names (noflow (
     record { vertex = 1; set = 0 ∷ 2 ∷ [] } ∷ record { vertex = 0; set = [] } ∷ []))
@@ -89,3 +97,15 @@ no_name = refl
 
 pub cut : Breaks NoCausal (codes "b a\n") TextEnds 2 1
 cut = refl
+
+pub second_layer : Breaks Least (codes "depth 1\nl 1 a\nl 2 a\n") RowTwice 3 5
+second_layer = refl
+
+pub second_bound_set : Breaks Least (codes "depth 2\ny 1 a :\ny 2 a :\ny 01 a :\n") RowTwice 4 6
+second_bound_set = refl
+
+pub layer_behind_set : Breaks Least (codes "depth 2\ny 1 a :\nl 1 a\n") NotFixed 3 1
+layer_behind_set = refl
+
+pub behind_layer : Breaks Least (codes "depth 1\nl 1 a b\n") Surplus 2 7
+behind_layer = refl

@@ -6,7 +6,7 @@ ghost use Rattle.mc_cert_text.specs.Certs.{IsCertIn, plain_cert};
 ghost use Rattle.mc_cert_text.specs.Holding.{HoldsOf, rules_of};
 
 use crate::cert::Cert;
-use mc_cert::{Verdict, check_flow, check_refuter, check_stuck};
+use mc_cert::{Verdict, check_bound, check_flow, check_refuter, check_stuck};
 use mc_graph::OpenGraph;
 
 /// Whether a certificate holds of a graph; else the first row that breaks a rule, and the least rule that it breaks. It takes
@@ -20,5 +20,6 @@ pub fn check_cert<const H: usize>(g: &OpenGraph<H>, cert: &Cert) -> Verdict
         Cert::Flow(flow) => check_flow(g, flow),
         Cert::NoFlow(refuter) => check_refuter(g, refuter),
         Cert::NoCausal(stuck) => check_stuck(g, stuck),
+        Cert::Least(bound) => check_bound(g, bound),
     }
 }

@@ -1,9 +1,12 @@
 //! The rows of a flow, as they are read.
 
 ghost use Rattle.std.specs.Prelude.{◌≡◌, [], OnOk, IfErr};
+ghost use Rattle.mc_cert_text.specs.Certs.{HasApartRows, plain_cert, flow};
 ghost use Rattle.mc_cert_text.specs.Tables.{flow_shape, follows_in_flow, is_flow_row};
-ghost use Rattle.mc_cert_text.specs.Kept.{IsFlowBegun, flow_with};
+ghost use Rattle.mc_cert_text.specs.Kept.{IsBegun, flow_with};
+ghost use Rattle.mc_cert_text.specs.Value.{flow_in};
 
+use crate::cert::Cert;
 use mc_graph::GFlow;
 use mc_rows::{Row, Rows, Shape};
 use mc_text::{Fault, Head, Stop};
@@ -14,19 +17,29 @@ use std::alloc::Global;
 pub(crate) struct KeptFlow {
     alloc: Global,
     begun: bool,
-    pub(crate) flow: GFlow,
+    flow: GFlow,
 }
 
 impl KeptFlow {
     /// Before the first row.
     pub(crate) fn new(alloc: Global) -> KeptFlow
-        ensures { IsFlowBegun result.begun result.flow [] }
+        ensures { IsBegun result.begun result.flow (flow_in []) [] }
     {
         KeptFlow {
             alloc,
             begun: false,
             flow: GFlow::new(alloc, 0),
         }
+    }
+
+    /// The flow that the rows say.
+    pub(crate) fn cert(self) -> Cert
+        ensures value { plain_cert result ≡ flow self.flow }
+        ensures apart { HasApartRows (plain_cert result) }
+    {
+        // the proof needs that no two rows are of the same vertex
+        let _rows = self.flow.len();
+        Cert::Flow(self.flow)
     }
 }
 
@@ -76,11 +89,12 @@ fn push_row(flow: &mut GFlow, row: Row) -> Result<(), Stop>
 
 impl Rows for KeptFlow {
     ghost use Rattle.mc_cert_text.specs.Kinds.{flow_kind};
-    ghost use Rattle.mc_cert_text.specs.Kept.{IsFlowBegun};
+    ghost use Rattle.mc_cert_text.specs.Kept.{IsBegun};
+    ghost use Rattle.mc_cert_text.specs.Value.{flow_in};
 
     ghost kind = { λ _. flow_kind };
 
-    ghost holds = { λ k rows. IsFlowBegun k.begun k.flow rows };
+    ghost holds = { λ k rows. IsBegun k.begun k.flow (flow_in rows) rows };
 
     fn follows(&self, last: Option<Head>, head: Option<Head>) -> bool {
         follows(last, head)

@@ -1,9 +1,11 @@
 //! The rows of a refuter, as they are read.
 
 ghost use Rattle.std.specs.Prelude.{◌≡◌, [], OnOk, IfErr};
-ghost use Rattle.mc_cert_text.specs.Tables.{refuter_shape, follows_in_refuter, is_refuter_row};
+ghost use Rattle.mc_cert_text.specs.Certs.{HasApartRows, plain_cert, noflow};
+ghost use Rattle.mc_cert_text.specs.Tables.{refuter_shape, follows_in_refuter, is_set_row};
 ghost use Rattle.mc_cert_text.specs.Kept.{refuter_with};
 
+use crate::cert::Cert;
 use mc_graph::Refuter;
 use mc_rows::{Row, Rows, Shape};
 use mc_text::{Fault, Head, Stop};
@@ -12,7 +14,7 @@ use std::alloc::Global;
 /// What is kept of the rows of a refuter: what they say.
 #[derive(Drop)]
 pub(crate) struct KeptRefuter {
-    pub(crate) refuter: Refuter,
+    refuter: Refuter,
 }
 
 impl KeptRefuter {
@@ -23,6 +25,16 @@ impl KeptRefuter {
         KeptRefuter {
             refuter: Refuter::new(alloc),
         }
+    }
+
+    /// The refuter that the rows say.
+    pub(crate) fn cert(self) -> Cert
+        ensures value { plain_cert result ≡ noflow self.refuter }
+        ensures apart { HasApartRows (plain_cert result) }
+    {
+        // the proof needs that no two rows are of the same vertex
+        let _rows = self.refuter.len();
+        Cert::NoFlow(self.refuter)
     }
 }
 
@@ -48,7 +60,7 @@ fn shape(head: Option<Head>) -> Shape
 }
 
 fn is_vertex_row(head: Option<Head>) -> bool
-    ensures { result ≡ is_refuter_row head }
+    ensures { result ≡ is_set_row head }
 {
     matches!(head, Some(Head::Y))
 }

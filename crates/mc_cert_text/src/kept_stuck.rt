@@ -1,8 +1,11 @@
 //! The row of a stuck set, as it is read.
 
 ghost use Rattle.std.specs.Prelude.{◌≡◌, []};
+ghost use Rattle.mc_cert_text.specs.Certs.{plain_cert, nocausal};
 ghost use Rattle.mc_cert_text.specs.Tables.{stuck_shape, follows_in_stuck};
 
+use crate::cert::Cert;
+use mc_graph::Stuck;
 use mc_rows::{Row, Rows, Shape};
 use mc_signal::QSet;
 use mc_text::{Head, Stop};
@@ -11,7 +14,7 @@ use std::alloc::Global;
 /// What is kept of the row of a stuck set: the set.
 #[derive(Drop)]
 pub(crate) struct KeptStuck {
-    pub(crate) set: QSet,
+    set: QSet,
 }
 
 impl KeptStuck {
@@ -22,6 +25,13 @@ impl KeptStuck {
         KeptStuck {
             set: QSet::new(alloc),
         }
+    }
+
+    /// The stuck set that the row says.
+    pub(crate) fn cert(self) -> Cert
+        ensures { plain_cert result ≡ nocausal self.set }
+    {
+        Cert::NoCausal(Stuck::new(self.set))
     }
 }
 

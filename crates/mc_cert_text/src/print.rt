@@ -3,15 +3,17 @@
 ghost use Rattle.std.specs.Prelude.{◌≡◌, ◌++◌, ◌<◌, ◌≤◌, All, OnOk, IfOk, length, map};
 ghost use Rattle.mc_model.specs.Signals.{IsRising};
 ghost use Rattle.mc_write.specs.Text.{line_text, text_of};
-ghost use Rattle.mc_graph.specs.RowLists.{AreRowsOf};
+ghost use Rattle.mc_graph.specs.RowLists.{AreRowsOf, HaveOwnVertices};
+ghost use Rattle.mc_cert.specs.BoundRules.{AreApart};
 ghost use Rattle.mc_rows.specs.Written.{row_line};
-ghost use Rattle.mc_cert_text.specs.Certs.{HasShortNumbers, HasOwnRows, IsCertIn, IsCertOf};
-ghost use Rattle.mc_cert_text.specs.Certs.{plain_cert, flow, noflow, nocausal};
-ghost use Rattle.mc_cert_text.specs.Tables.{flow_shape, refuter_shape, stuck_shape};
+ghost use Rattle.mc_cert_text.specs.Certs.{HasShortNumbers, HasShortBound, HasOwnRows, IsCertIn};
+ghost use Rattle.mc_cert_text.specs.Certs.{IsCertOf, plain_cert, flow, noflow, nocausal, least};
+ghost use Rattle.mc_cert_text.specs.Tables.{flow_shape, refuter_shape, stuck_shape, least_shape};
 ghost use Rattle.mc_cert_text.specs.Canonical.{cert_text, depth_row, flow_row, refuter_row};
-ghost use Rattle.mc_cert_text.specs.Canonical.{stuck_row};
+ghost use Rattle.mc_cert_text.specs.Canonical.{stuck_row, layer_row, bound_row};
 
 use crate::cert::Cert;
+use mc_cert::Bound;
 use mc_graph::{GFlow, OpenGraph, Refuter, Stuck};
 use mc_lex::Kind;
 use mc_model::Memory;
@@ -36,6 +38,7 @@ pub fn print_cert<const H: usize>(
         Cert::Flow(flow) => print_flow(alloc, g.names(), flow),
         Cert::NoFlow(refuter) => print_refuter(alloc, g.names(), refuter),
         Cert::NoCausal(stuck) => print_stuck(alloc, g.names(), stuck),
+        Cert::Least(bound) => print_least(alloc, g.names(), bound),
     }
 }
 
@@ -156,4 +159,68 @@ fn print_stuck_row(text: &mut Vec<u8>, names: &Names, set: &QSet) -> Result<(), 
         constant: false,
     };
     print_row(text, names, Shape::Set, row)
+}
+
+fn print_least(alloc: Global, names: &Names, b: &Bound) -> Result<Vec<u8>, Memory>
+    requires vertices { All (λ r. r.vertex < length names.now) b.now.layers }
+    requires sets { AreRowsOf (length names.now) (λ r. r.vertex) (λ r. r.set) b.now.rows }
+    requires numbers { HasShortBound b.now }
+    ensures text { IfOk result (λ text. text.items ≡ cert_text names.now (least b.now)) }
+    ensures own { OnOk result (HasOwnRows (least b.now)) }
+{
+    let mut text = Vec::new(alloc);
+    print_header(&mut text, Kind::Least, 1, 4)?;
+    print_depth(alloc, &mut text, names, b.depth())?;
+    print_layers(alloc, &mut text, names, b)?;
+    print_sets(&mut text, names, b)?;
+    print_end(&mut text)?;
+    Ok(text)
+}
+
+/// Writes the layers of a bound.
+fn print_layers(alloc: Global, text: &mut Vec<u8>, names: &Names, b: &Bound) -> Result<(), Memory>
+    requires vertices { All (λ r. r.vertex < length names.now) b.now.layers }
+    requires numbers { All (λ r. r.layer ≤ 9999) b.now.layers }
+    ensures text { OnOk result (text.new.items ≡ text.old.items
+        ++ text_of (map (λ r. row_line least_shape names.now (layer_row r)) b.now.layers)) }
+    ensures own { OnOk result (HaveOwnVertices (λ r. r.vertex) b.now.layers) }
+{
+    let none = QSet::new(alloc);
+    'rows: for i in 0..b.layers() {
+        let (vertex, layer) = b.layer_row(i);
+        let parts = Parts {
+            head: Head::L,
+            number: layer as u16,
+            name: vertex,
+            set: &none,
+            constant: false,
+        };
+        print_row(text, names, Shape::Ranked, parts)?;
+    }
+    Ok(())
+}
+
+/// Writes the sets of a bound.
+fn print_sets(text: &mut Vec<u8>, names: &Names, b: &Bound) -> Result<(), Memory>
+    requires sets { AreRowsOf (length names.now) (λ r. r.vertex) (λ r. r.set) b.now.rows }
+    requires numbers { All (λ r. r.k ≤ 9999) b.now.rows }
+    ensures text { OnOk result (text.new.items ≡ text.old.items
+        ++ text_of (map (λ r. row_line least_shape names.now (bound_row r)) b.now.rows)) }
+    ensures apart { OnOk result (AreApart b.now.rows) }
+    ensures rising { OnOk result (All (λ r. IsRising r.set) b.now.rows) }
+{
+    'rows: for i in 0..b.len() {
+        let (k, vertex, set) = b.row(i);
+        // the proof needs that the set is in order
+        let _members = set.len();
+        let parts = Parts {
+            head: Head::Y,
+            number: k as u16,
+            name: vertex,
+            set,
+            constant: false,
+        };
+        print_row(text, names, Shape::RankedSet, parts)?;
+    }
+    Ok(())
 }

@@ -103,3 +103,16 @@ fn false_refuters_and_stuck_sets_are_found(rt: HostRuntime) -> Result<(), Fail> 
     }
     Ok(())
 }
+
+#[test]
+fn bounds_are_read_and_written(rt: HostRuntime) -> Result<(), Fail> {
+    let alloc = rt.alloc();
+    let g = path(&rt, alloc)?;
+    let mut words = Words::new(b"depth 2\nl 1 b\nl 02 a\ny 1 a : a\nend\n".as_slice());
+    let bound = read_cert(alloc, &mut words, Kind::Least, &g)?;
+    assert_eq!(&rt; check_cert(&g, &bound), Verdict::Yes);
+    let text = print_cert(alloc, &g, &bound)?;
+    let due = b"least 1\ndepth 2\nl 1 b\nl 2 a\ny 1 a : a\nend\n".as_slice();
+    assert_eq!(&rt; text.as_slice(), due);
+    Ok(())
+}
