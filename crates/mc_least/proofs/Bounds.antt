@@ -344,7 +344,7 @@ keeps_decided g layer k u y =
     by true e (inr within) even = inr (λ h. within h.within)
     by false e within even = inr (λ h. true≢false (sym h.holds ∙ e))
 
-keeps_same : (g : OpenGraph) (layer : ℕ → ℕ) (k u : ℕ) → u < size g → (s t : Bits) →
+pub keeps_same : (g : OpenGraph) (layer : ℕ → ℕ) (k u : ℕ) → u < size g → (s t : Bits) →
     SameBelow (size g) s t → KeepsAbove g layer k u s → KeepsAbove g layer k u t
 keeps_same g layer k u l s t same h = record {
   holds = sym (same u l) ∙ h.holds;
@@ -470,7 +470,7 @@ depth_reached g sets layer f =
     by v l e true o = inl (sym e ∙ f.outputs v (omega arith) o)
     by v l e false o = inr (v, omega arith, o, e)
 
-bound_of_least : (g : OpenGraph) (sets : ℕ → Bits) (layer : ℕ → ℕ) (y : ℕ → ℕ → Bits) →
+pub bound_of_least : (g : OpenGraph) (sets : ℕ → Bits) (layer : ℕ → ℕ) (y : ℕ → ℕ → Bits) →
     IsFlow g sets layer →
     ((k u : ℕ) → 1 ≤ k → k < layer u → u < size g → is_output g u ≡ false →
     IsLeastSet (λ d j. d < j) (size g) (KeepsAbove g layer k u) (y k u)) →
