@@ -1,5 +1,6 @@
 -- The chosen flow where all vertices were taken, and the chosen refuter where some were not.
-use Rattle.std.specs.Prelude.{◌≡◌, ◌≢◌, ◌⊎◌, ℕ, zero, suc, ◌+◌, ◌<◌, ◌≤◌, Bool, true, false, not}
+use Rattle.std.specs.Prelude.{◌≡◌, ◌≢◌, ◌⊎◌, ℕ, zero, suc, ◌+◌, ◌<◌}
+use Rattle.std.specs.Prelude.{◌≤◌, Bool, true, false, not}
 use Rattle.std.specs.Prelude.{◌&&◌, nat_eq, refl}
 use Rattle.std.proofs.Common.{arith, sym, ap, ap₂, subst, ◌∙◌, inl, inr}
 use Rattle.std.proofs.lemmas.Bool.{eq-eqb, ne_eqb, eqb-true}

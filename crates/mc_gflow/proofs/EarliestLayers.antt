@@ -1,5 +1,6 @@
 -- Layers that are taken as early as can be are least.
-use Rattle.std.specs.Prelude.{◌≡◌, ◌≢◌, ◌⊎◌, ℕ, zero, suc, ◌<◌, ◌≤◌, Bool, true, false, ◌&&◌, refl}
+use Rattle.std.specs.Prelude.{◌≡◌, ◌≢◌, ◌⊎◌, ℕ, zero, suc, ◌<◌, ◌≤◌}
+use Rattle.std.specs.Prelude.{Bool, true, false, ◌&&◌, refl}
 use Rattle.std.proofs.Common.{arith, sym, subst, ◌∙◌, inl, inr}
 use Rattle.mc_model.specs.Bits.{◌⊻◌, Bits}
 use Rattle.mc_model.specs.Graph.{OpenGraph, size, is_input, is_output, joins, odd_neighbourhood}

@@ -1,5 +1,6 @@
 -- One more vertex was asked.
-use Rattle.std.specs.Prelude.{◌≡◌, ◌≢◌, ◌⊎◌, ℕ, suc, ◌+◌, ◌<◌, ◌≤◌, Bool, true, false, ◌&&◌, cond}
+use Rattle.std.specs.Prelude.{◌≡◌, ◌≢◌, ◌⊎◌, ℕ, suc, ◌+◌, ◌<◌}
+use Rattle.std.specs.Prelude.{◌≤◌, Bool, true, false, ◌&&◌, cond}
 use Rattle.std.specs.Prelude.{nat_eq, List, [], length, slice_index, slice_set, replicate, refl}
 use Rattle.std.proofs.Common.{arith, sym, ap, ap₂, subst, ◌∙◌, inl, inr, get_or-set_same}
 use Rattle.std.proofs.Common.{get_or-set_other, length-set}

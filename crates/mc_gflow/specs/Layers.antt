@@ -1,5 +1,6 @@
 -- What the finder keeps while it takes vertices into layers.
-use Rattle.std.specs.Prelude.{◌≡◌, ◌⊎◌, ℕ, ◌+◌, ◌*◌, ◌<◌, ◌≤◌, Bool, true, false, not, ◌&&◌, nat_eq}
+use Rattle.std.specs.Prelude.{◌≡◌, ◌⊎◌, ℕ, ◌+◌, ◌*◌, ◌<◌, ◌≤◌, Bool}
+use Rattle.std.specs.Prelude.{true, false, not, ◌&&◌, nat_eq}
 use Rattle.std.specs.Prelude.{List, length, count_by, slice_index}
 use Rattle.mc_model.specs.Bits.{Bits, odd}
 use Rattle.mc_model.specs.Graph.{OpenGraph, size, is_input, is_output, joins, odd_neighbourhood}

@@ -1,6 +1,7 @@
 //! Vertices that are taken into a layer, and those that can't be.
 
-ghost use Rattle.std.specs.Prelude.{◌≡◌, ◌<◌, ◌≤◌, ◌+◌, ◌&&◌, ◌⊎◌, ℕ, true, false, length, nat_eq};
+ghost use Rattle.std.specs.Prelude.{◌≡◌, ◌<◌, ◌≤◌, ◌+◌, ◌&&◌, ◌⊎◌};
+ghost use Rattle.std.specs.Prelude.{ℕ, true, false, length, nat_eq};
 ghost use Rattle.std.specs.Prelude.{slice_index, slice_set};
 ghost use Rattle.mc_model.specs.Bits.{◌⊻◌};
 ghost use Rattle.mc_model.specs.Graph.{size};

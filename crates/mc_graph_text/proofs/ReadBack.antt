@@ -1,5 +1,6 @@
 -- The canonical text of an open graph is read without a fault, as that graph.
-use Rattle.std.proofs.Common.{◌≡◌, ℕ, zero, suc, ◌+◌, ◌*◌, ◌<◌, ◌≤◌, List, [], ◌∷◌, ◌++◌, Bool}
+use Rattle.std.proofs.Common.{◌≡◌, ℕ, zero, suc, ◌+◌, ◌*◌, ◌<◌, ◌≤◌, List}
+use Rattle.std.proofs.Common.{[], ◌∷◌, ◌++◌, Bool}
 use Rattle.std.proofs.Common.{true}
 use Rattle.std.proofs.Common.{false, ◌&&◌, ◌==◌, Option, Some, None, length, map, take, drop, codes}
 use Rattle.std.proofs.Common.{refl, sym, ap, ap₂, ◌∙◌, arith, cond, IsTrue, if◌then◌else◌, ◌⊎◌}
