@@ -1,119 +1,158 @@
--- The headers of canonical texts: each names its kind and its version, and may stand there where
--- the kind is taken.
-use Rattle.std.specs.Prelude.{IsTrue}
-use Rattle.std.proofs.Common.{◌≡◌, ℕ, Bool, true, false, List, [], ◌∷◌, codes, drop, Some}
-use Rattle.std.proofs.Common.{None, refl, sym, inl, inr, subst, if◌then◌else◌}
-use Rattle.std.proofs.lemmas.Bool.{eqb-true}
-use Rattle.std.proofs.lemmas.Bool.Decides.{eqb_tells}
+-- The headers of canonical texts: each names its kind, its version and its step, and may stand where
+-- its kind may, and where its form permits what it says.
+use Rattle.std.proofs.Common.{◌≡◌, ℕ, ◌+◌, true, false, List, [], ◌∷◌, ◌++◌, drop, Some}
+use Rattle.std.proofs.Common.{None, Option, length, refl, sym, ap, ◌∙◌, inl, inr}
+use Rattle.std.specs.List.{list_all}
+use Rattle.std.proofs.lemmas.List.{append-nil}
 use Rattle.mc_lex.specs.declared.kind.Kind.{Kind}
-use Rattle.mc_lex.specs.declared.kind.Kind.TheVariants.{Pattern, Graph}
-use Rattle.mc_lex.specs.Lines.{word, Line, line_of, lines_of}
-use Rattle.mc_model.specs.Graph.{OpenGraph}
-use Rattle.mc_model.specs.Pattern as plain
-use Rattle.mc_model.specs.Steps.{is_permitted}
-use Rattle.mc_write.specs.Text as written
-use Rattle.mc_text.specs.declared.fault.Fault.TheVariants.{NoKind}
-use Rattle.mc_text.specs.Judged.{words_of}
-use Rattle.mc_text.specs.Headers.{first_in_header, header_words, kind_in, version_in, IsHalf}
-use Rattle.mc_text.specs.Headers.{IsVersion}
-use Rattle.mc_pattern_text.specs.Canonical.{pattern_text}
-use Rattle.mc_graph_text.specs.Canonical.{graph_lines, graph_text, graph_version, has_fixed}
-use Rattle.mc_document.specs.declared.takes.Takes.{Takes}
-use Rattle.mc_document.specs.Kinds.{first_form, refused_kind}
+use Rattle.mc_lex.specs.declared.kind.Kind.TheVariants.{Circuit, Pattern, Graph, Change, Flow}
+use Rattle.mc_lex.specs.declared.kind.Kind.TheVariants.{NoFlow, NoCausal, Trace, Least, Gates}
+use Rattle.mc_lex.specs.Kinds.{kind_of, spelling}
+use Rattle.mc_lex.specs.Lines.{word, Line, line_of, lines_from, lines_of}
+use Rattle.mc_write.specs.Text.{line_text, text_of}
+use Rattle.mc_text.specs.declared.fault.Fault.{Fault}
+use Rattle.mc_text.specs.declared.form.Form.{Form}
+use Rattle.mc_text.specs.Judged.{Words, Lines, Place, Rules, words_of, first_in_line}
+use Rattle.mc_text.specs.Headers.{first_in_header, header_rules, header_words, is_other, kind_in}
+use Rattle.mc_text.specs.Headers.{may_say, turn_words, version_in, version_word, IsHalf, IsVersion}
+use Rattle.mc_text.specs.Headers.{half_in}
+use Rattle.mc_text.proofs.Clean.{CleanWords}
+use Rattle.mc_text.proofs.HeadersBack.{half_back, kind_spelled, version_back}
+use Rattle.mc_text.proofs.Written.{is_written, is_written_line, items_behind, lines_of-text}
+use Rattle.mc_text.proofs.Written.{placed_items, placed_lines}
+use Rattle.mc_document.proofs.Joined.{joined, line_ended}
 
--- the first line of a text is the header of a section of this kind and version
-pub record HasHeader (half : ℕ) (kind : Kind) (version : ℕ) (text : List ℕ) : Type 0 where
+-- the first line of a text has these words, and rules that have nothing against them have no fault
+-- there
+pub record HasFirst (words : Words) (text : List ℕ) : Type 0 where
   pub line : Line
   pub rest : lines_of text ≡ line ∷ drop 1 (lines_of text)
-  pub named : kind_in (words_of line.items) ≡ Some kind
-  pub says : version_in (words_of line.items) ≡ version
-  pub clean : (takes : Takes) → refused_kind takes kind ≡ None →
-      first_in_header (refused_kind takes) NoKind (first_form half) line.items line.lack ≡ None
+  pub said : words_of line.items ≡ words
+  pub clean : (rules : Rules) → CleanWords rules [] [] words →
+      first_in_line rules [] [] line.items line.lack ≡ None
 
-pub pattern_header : (half : ℕ) (p : plain.Pattern) → HasHeader half Pattern 1 (pattern_text p)
-pattern_header half p = record {
-  line = line_of 1 (word (codes "pattern") 1 1) (word (codes "1") 1 9 ∷ []);
-  rest = refl;
-  named = refl;
-  says = refl;
-  clean = λ takes taken. rw taken refl;
-}
+behind_said : (line column : ℕ) (ws : Words) → words_of (items_behind line column ws) ≡ ws
+unfolding items_behind
+behind_said line column [] = refl
+behind_said line column (w ∷ ws) =
+    ap (λ (more : Words). w ∷ more) (behind_said line (column + 1 + length w) ws)
 
--- ---- the four headers of graphs
+behind_clean : (rules : Rules) (here ws : Words) (line column : ℕ) (lack : Place) →
+    CleanWords rules [] here ws →
+    first_in_line rules [] here (items_behind line column ws) lack ≡ None
+unfolding items_behind
+behind_clean rules here [] line column lack clean = rw clean refl
+behind_clean rules here (w ∷ ws) line column lack clean =
+    rw (
+      clean.0,
+      behind_clean rules (here ++ w ∷ []) ws line (column + 1 + length w) lack clean.1,
+    ) refl
 
-in_eighths : (lines : List written.Line) →
-    HasHeader 4 Graph 1 (written.text_of (header_words Graph 1 4 ∷ lines))
-in_eighths lines = record {
-  line = line_of 1 (word (codes "graph") 1 1) (word (codes "1") 1 7 ∷ []);
-  rest = refl;
-  named = refl;
-  says = refl;
-  clean = λ takes taken. rw taken refl;
-}
+one_placed : (w : List ℕ) (ws : Words) →
+    placed_lines 1 ((w ∷ ws) ∷ [])
+    ≡ line_of 1 (word w 1 1) (items_behind 1 (1 + length w) ws) ∷ []
+unfolding placed_items placed_lines
+one_placed w ws = refl
 
-fixed_in_eighths : (lines : List written.Line) →
-    HasHeader 4 Graph 2 (written.text_of (header_words Graph 2 4 ∷ lines))
-fixed_in_eighths lines = record {
-  line = line_of 1 (word (codes "graph") 1 1) (word (codes "2") 1 7 ∷ []);
-  rest = refl;
-  named = refl;
-  says = refl;
-  clean = λ takes taken. rw taken refl;
-}
+pub first_line : (words : Words) (lines : Lines) → is_written_line words ≡ true →
+    HasFirst words (text_of (words ∷ lines))
+first_line [] lines written = absurd (cc written)
+first_line (w ∷ ws) lines written =
+    let words = w ∷ ws in
+    let line = line_of 1 (word w 1 1) (items_behind 1 (1 + length w) ws) in
+    let alone : list_all is_written_line (words ∷ []) ≡ true = rw written refl in
+    let own : lines_of (line_text words) ≡ line ∷ [] =
+    ap lines_of (sym (append-nil (line_text words)))
+    ∙ lines_of-text (words ∷ []) alone
+    ∙ one_placed w ws in
+    let both = joined (line_text words) (text_of lines) (line_ended words) in
+    let more = lines_from both.0 (text_of lines) in
+    let all : lines_of (text_of (words ∷ lines)) ≡ line ∷ more =
+    both.1 ∙ ap (λ (ls : List Line). ls ++ more) own in
+    record {
+      line = line;
+      rest = all ∙ ap (λ (ls : List Line). line ∷ drop 1 ls) (sym all);
+      said = ap (λ (others : Words). w ∷ others) (behind_said 1 (1 + length w) ws);
+      clean = λ rules clean. rw clean.0
+          (behind_clean rules (w ∷ []) ws 1 (1 + length w) line.lack clean.1);
+    }
 
-in_sixteenths : (lines : List written.Line) →
-    HasHeader 8 Graph 1 (written.text_of (header_words Graph 1 8 ∷ lines))
-in_sixteenths lines = record {
-  line = line_of 1 (word (codes "graph") 1 1)
-      (word (codes "1") 1 7 ∷ word (codes "turn") 1 9 ∷ word (codes "16") 1 14 ∷ []);
-  rest = refl;
-  named = refl;
-  says = refl;
-  clean = λ takes taken. rw taken refl;
-}
+-- ---- headers
 
-fixed_in_sixteenths : (lines : List written.Line) →
-    HasHeader 8 Graph 2 (written.text_of (header_words Graph 2 8 ∷ lines))
-fixed_in_sixteenths lines = record {
-  line = line_of 1 (word (codes "graph") 1 1)
-      (word (codes "2") 1 7 ∷ word (codes "turn") 1 9 ∷ word (codes "16") 1 14 ∷ []);
-  rest = refl;
-  named = refl;
-  says = refl;
-  clean = λ takes taken. rw taken refl;
-}
+-- the first line of a text is the header of a section of this kind and version, and of this step
+abbrev pub HasHeader : Kind → ℕ → ℕ → List ℕ → Type 0
+HasHeader kind version half text =
+    HasFirst (header_words kind version half) text × IsVersion version × IsHalf half
 
-abbrev HasGraphHeader : ℕ → ℕ → List written.Line → Type 0
-HasGraphHeader half version lines =
-    HasHeader half Graph version (written.text_of (header_words Graph version half ∷ lines))
+kind_written : (kind : Kind) → is_written (spelling kind) ≡ true
+kind_written Circuit = refl
+kind_written Pattern = refl
+kind_written Graph = refl
+kind_written Change = refl
+kind_written Flow = refl
+kind_written NoFlow = refl
+kind_written NoCausal = refl
+kind_written Trace = refl
+kind_written Least = refl
+kind_written Gates = refl
 
-of_both : (half version : ℕ) (lines : List written.Line) → IsHalf half → IsVersion version →
-    HasGraphHeader half version lines
-of_both half version lines (inl h) (inl v) =
-    subst (λ (x : ℕ). HasGraphHeader x version lines) (sym h)
-    (subst (λ (x : ℕ). HasGraphHeader 4 x lines) (sym v) (in_eighths lines))
-of_both half version lines (inl h) (inr v) =
-    subst (λ (x : ℕ). HasGraphHeader x version lines) (sym h)
-    (subst (λ (x : ℕ). HasGraphHeader 4 x lines) (sym v) (fixed_in_eighths lines))
-of_both half version lines (inr h) (inl v) =
-    subst (λ (x : ℕ). HasGraphHeader x version lines) (sym h)
-    (subst (λ (x : ℕ). HasGraphHeader 8 x lines) (sym v) (in_sixteenths lines))
-of_both half version lines (inr h) (inr v) =
-    subst (λ (x : ℕ). HasGraphHeader x version lines) (sym h)
-    (subst (λ (x : ℕ). HasGraphHeader 8 x lines) (sym v) (fixed_in_sixteenths lines))
+header_written : (kind : Kind) (version half : ℕ) → IsVersion version → IsHalf half →
+    is_written_line (header_words kind version half) ≡ true
+header_written kind version half (inl v) (inl h) = rw (v, h, kind_written kind) refl
+header_written kind version half (inl v) (inr h) = rw (v, h, kind_written kind) refl
+header_written kind version half (inr v) (inl h) = rw (v, h, kind_written kind) refl
+header_written kind version half (inr v) (inr h) = rw (v, h, kind_written kind) refl
 
-permitted_half : (half : ℕ) → IsTrue (is_permitted half) → IsHalf half
-permitted_half half p = elim (eqb_tells half 4) [
-  | inl e ↦ inl e.1
-  | inr e ↦ inr (eqb-true half 8 (rw e.0 at p))
-]
+pub header_of : (kind : Kind) (version half : ℕ) (lines : Lines) → IsVersion version →
+    IsHalf half → HasHeader kind version half (text_of (header_words kind version half ∷ lines))
+header_of kind version half lines v h =
+    (first_line (header_words kind version half) lines (header_written kind version half v h), v, h)
 
-known_version : (fixed : Bool) → IsVersion (if fixed then 2 else 1)
-known_version true = inr refl
-known_version false = inl refl
+pub named : (kind : Kind) (version half : ℕ) (text : List ℕ) (h : HasHeader kind version half text) →
+    kind_in (words_of h.0.line.items) ≡ Some kind
+named kind version half text h = ap kind_in h.0.said ∙ kind_spelled kind
 
-pub graph_header : (half : ℕ) (g : OpenGraph) → IsTrue (is_permitted half) →
-    HasHeader half Graph (graph_version g) (graph_text half g)
-graph_header half g permitted =
-    of_both half (graph_version g) (graph_lines g) (permitted_half half permitted)
-    (known_version (has_fixed g))
+pub versioned : (kind : Kind) (version half : ℕ) (text : List ℕ)
+    (h : HasHeader kind version half text) → version_in (words_of h.0.line.items) ≡ version
+versioned kind version half text h =
+    ap version_in h.0.said ∙ version_back kind version half h.1
+
+pub stepped : (kind : Kind) (version half : ℕ) (text : List ℕ)
+    (h : HasHeader kind version half text) → half_in (words_of h.0.line.items) ≡ half
+stepped kind version half text h = ap half_in h.0.said ∙ half_back kind version half h.2
+
+-- a form permits what a header says
+pub record Permits (form : Form) (version half : ℕ) : Type 0 where
+  pub second : version ≡ 2 → form.second ≡ true
+  pub turning : half ≡ 8 → (may_say form.turning ≡ true) × (is_other form.turning 8 ≡ false)
+
+words_clean : (refused : Kind → Option Fault) (unknown : Fault) (form : Kind → Form)
+    (first : List ℕ) (kind : Kind) (version half : ℕ) → kind_of first ≡ Some kind →
+    refused kind ≡ None → IsVersion version → IsHalf half → Permits (form kind) version half →
+    CleanWords (header_rules refused unknown form) [] []
+    (first ∷ version_word version ∷ turn_words half)
+words_clean refused unknown form first kind version half e free (inl v) (inl h) permits =
+    rw (v, h) (rw (e, free) refl, (refl, refl))
+words_clean refused unknown form first kind version half e free (inl v) (inr h) permits =
+    let turning = permits.turning h in
+    rw (v, h) (
+      rw (e, free) refl,
+      (refl, (rw (e, turning.0) refl, (rw (e, turning.1) refl, refl))),
+    )
+words_clean refused unknown form first kind version half e free (inr v) (inl h) permits =
+    rw (v, h) (rw (e, free) refl, (rw (e, permits.second v) refl, refl))
+words_clean refused unknown form first kind version half e free (inr v) (inr h) permits =
+    let turning = permits.turning h in
+    rw (v, h) (
+      rw (e, free) refl,
+      (rw (e, permits.second v) refl, (rw (e, turning.0) refl, (rw (e, turning.1) refl, refl))),
+    )
+
+pub header_clean : (refused : Kind → Option Fault) (unknown : Fault) (form : Kind → Form)
+    (kind : Kind) (version half : ℕ) (text : List ℕ) (h : HasHeader kind version half text) →
+    refused kind ≡ None → Permits (form kind) version half →
+    first_in_header refused unknown form h.0.line.items h.0.line.lack ≡ None
+header_clean refused unknown form kind version half text h free permits =
+    h.0.clean (header_rules refused unknown form)
+    (words_clean refused unknown form (spelling kind) kind version half (kind_spelled kind) free
+    h.1 h.2 permits)

@@ -18,7 +18,7 @@ pub record IsEnded (text : List ℕ) : Type 0 where
   pub front : List ℕ
   pub same : text ≡ front ++ 10 ∷ []
 
-line_ended : (line : written.Line) → IsEnded (written.line_text line)
+pub line_ended : (line : written.Line) → IsEnded (written.line_text line)
 line_ended [] = record { front = []; same = refl }
 line_ended (first ∷ words) = record {
   front = first ++ written.words_behind words;

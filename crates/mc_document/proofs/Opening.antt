@@ -1,8 +1,7 @@
--- A document behind its header, and a change behind its own.
+-- A document behind its header, and a second section behind its own.
 use Rattle.std.proofs.Common.{◌≡◌, ℕ, zero, suc, List, [], ◌∷◌, true, Option, Some, None, refl, sym}
-use Rattle.std.proofs.Common.{◌∙◌, ap, subst, map, length, false, Result, Ok, Err, IfOk}
+use Rattle.std.proofs.Common.{◌∙◌, ap, subst, false}
 use Rattle.std.proofs.Common.{if◌then◌else◌}
-use Rattle.std.specs.List.{list_any}
 use Rattle.std.specs.Option.{option_map}
 use Rattle.mc_lex.specs.declared.kind.Kind.{Kind}
 use Rattle.mc_lex.specs.declared.kind.Kind.TheVariants.{Circuit, Pattern, Graph, Change, Flow}
@@ -11,8 +10,6 @@ use Rattle.mc_lex.specs.Lines.{Item, word, bad, Line}
 use Rattle.mc_lex.specs.declared.end.TextEnd.{TextEnd}
 use Rattle.mc_lex.specs.declared.end.TextEnd.TheVariants as end
 use Rattle.mc_lex.specs.Left.{Left, has_line, on_first, tokens_on, lines_on, IsFurther}
-use Rattle.mc_model.specs.Pattern as plain
-use Rattle.mc_model.specs.Pattern.{has_constant}
 use Rattle.mc_text.specs.declared.fault.Fault.{Fault}
 use Rattle.mc_text.specs.declared.fault.Fault.TheVariants.{NoKind, BehindEnd, NoSecond}
 use Rattle.mc_text.specs.declared.form.Form.{Form}
@@ -20,18 +17,14 @@ use Rattle.mc_text.specs.Judged.{Judgement, Lines, Place, Rules, fault, placed, 
 use Rattle.mc_text.specs.Judged.{first_in_section, section_lines, behind_section}
 use Rattle.mc_text.specs.Headers.{plain_forms, first_in_header, IsHeader, kind_in, version_in}
 use Rattle.mc_text.specs.Stops.{IsEnd}
-use Rattle.mc_pattern_text.specs.ChangeRows.{AllPlain}
-use Rattle.mc_pattern_text.specs.Value.{Spelled, spelled_n, spelled_e, spelled_m, spelled_x}
-use Rattle.mc_pattern_text.specs.Value.{spelled_z, spelled_commands, command_by, pattern_of}
-use Rattle.mc_pattern_text.specs.ChangeValue.{SpelledRow, row_by}
-use Rattle.mc_pattern_text.proofs.RisingSets.{rising_where}
 use Rattle.mc_cert_text.specs.Kinds.{IsCertKind}
 use Rattle.mc_document.specs.declared.takes.Takes.{Takes}
-use Rattle.mc_document.specs.Documents.{HasNoConstants}
-use Rattle.mc_document.specs.Kinds.{first_form, refused_behind_graph, refused_kind}
+use Rattle.mc_document.specs.Kinds.{first_form, form_behind_pattern, refused_behind_graph}
+use Rattle.mc_document.specs.Kinds.{refused_behind_pattern, refused_kind}
 use Rattle.mc_document.specs.Second.{Second, first_behind_first, first_in_second}
 use Rattle.mc_document.specs.Second.{spelled_second}
-use Rattle.mc_document.specs.Sections.{StartsDocument, first_in_kind, first_in_lines}
+use Rattle.mc_document.specs.Sections.{StandsBehindPattern, StartsDocument, first_in_kind}
+use Rattle.mc_document.specs.Sections.{first_in_lines}
 use Rattle.mc_document.specs.Sections.{spelled_in_kind, spelled_lines}
 use Rattle.mc_document.specs.Places.{place_in, place_in_lines}
 use Rattle.mc_document.proofs.Joined.{first_of_both}
@@ -44,7 +37,7 @@ header_kind kind place (bad line column ∷ items) h = absurd h
 
 first_by_kind : (half : ℕ) (takes : Takes) (lines : List Line) (end : Place) (kind : Kind)
     (place : Place) → has_line lines ≡ true → IsHeader kind place (on_first lines end).here →
-    first_in_header (refused_kind takes) NoKind (first_form half) (on_first lines end).here
+    first_in_header (refused_kind takes) NoKind first_form (on_first lines end).here
     (on_first lines end).lack ≡ None →
     first_in_lines half takes lines end
     ≡ first_in_kind half takes (Some kind) (version_in (words_of (on_first lines end).here))
@@ -91,14 +84,14 @@ last_on lines end opened headed kind place o =
 pub opened_first : (half : ℕ) (takes : Takes) (lines : List Line) (end : Place)
     (opened headed : Left) (kind : Kind) (place : Place) →
     IsOpened lines end opened headed kind place →
-    first_in_header (refused_kind takes) NoKind (first_form half) opened.here opened.lack ≡ None →
+    first_in_header (refused_kind takes) NoKind first_form opened.here opened.lack ≡ None →
     first_in_lines half takes lines end
     ≡ first_in_kind half takes (Some kind) (version_in (words_of opened.here)) headed.later
     headed.last
 opened_first half takes lines end opened headed kind place o clean =
     let header = header_on lines end opened headed kind place o in
     let none = subst
-    (λ (left : Left). first_in_header (refused_kind takes) NoKind (first_form half) left.here
+    (λ (left : Left). first_in_header (refused_kind takes) NoKind first_form left.here
     left.lack ≡ None)
     o.opens clean in
     let later = later_on lines end opened headed kind place o in
@@ -123,17 +116,17 @@ end_first (end.Limit which found) None later h = absurd (cc h)
 end_first (end.Limit which found) (Some judged) later h = h
 end_first end.Memory first later h = tt
 
+place_at : (kind : Kind) (place : Place) (items : List Item) (lack : Place) →
+    IsHeader kind place items → place_in items lack ≡ place
+place_at kind place [] lack h = absurd h
+place_at kind place (word bytes line column ∷ items) lack h = sym h.1
+place_at kind place (bad line column ∷ items) lack h = absurd h
+
 place_by_header : (lines : List Line) (end : Place) (kind : Kind) (place : Place) →
     has_line lines ≡ true → IsHeader kind place (on_first lines end).here →
     place_in_lines lines end ≡ place
 place_by_header [] end kind place some h = absurd (cc)
-place_by_header (line ∷ lines) end kind place some h = place_at line.items line.lack h
-  where
-    place_at : (items : List Item) (lack : Place) → IsHeader kind place items →
-        place_in items lack ≡ place
-    place_at [] lack h = absurd h
-    place_at (word bytes line column ∷ items) lack h = sym h.1
-    place_at (bad line column ∷ items) lack h = absurd h
+place_by_header (line ∷ lines) end kind place some h = place_at kind place line.items line.lack h
 
 -- the word that names the kind is the first one
 pub opened_place : (lines : List Line) (end : Place) (opened headed : Left) (kind : Kind)
@@ -144,15 +137,16 @@ opened_place lines end opened headed kind place o =
 -- the answer to a fault of the header
 pub header_first : (half : ℕ) (takes : Takes) (lines : List Line) (end : Place) (opened : Left)
     (given : TextEnd) → has_line lines ≡ true → opened ≡ on_first lines end →
-    IsEnd given (first_in_header (refused_kind takes) NoKind (first_form half) opened.here
+    IsEnd given (first_in_header (refused_kind takes) NoKind first_form opened.here
     opened.lack) →
     IsEnd given (first_in_lines half takes lines end)
 header_first half takes [] end opened given some opens h = absurd (cc)
 header_first half takes (line ∷ lines) end opened given some opens h =
     end_first given _ _ (subst (λ (left : Left). IsEnd given
-    (first_in_header (refused_kind takes) NoKind (first_form half) left.here left.lack)) opens h)
+    (first_in_header (refused_kind takes) NoKind first_form left.here left.lack)) opens h)
 
--- the header of a document that nothing is against is that of a circuit, a pattern or a graph
+-- the header of a document that nothing is against is that of a circuit, a pattern, a graph or
+-- a list of gates
 starts_kind : (takes : Takes) (kind : Kind) → refused_kind takes kind ≡ None → StartsDocument kind
 starts_kind takes Circuit clean = tt
 starts_kind takes Pattern clean = tt
@@ -163,7 +157,7 @@ starts_kind takes NoFlow clean = absurd (cc clean)
 starts_kind takes NoCausal clean = absurd (cc clean)
 starts_kind takes Trace clean = absurd (cc clean)
 starts_kind takes Least clean = absurd (cc clean)
-starts_kind takes Gates clean = absurd (cc clean)
+starts_kind takes Gates clean = tt
 
 pub unrefused : (place : Place) (refused : Option Fault) →
     placed place (option_map fault refused) ≡ None → refused ≡ None
@@ -179,13 +173,13 @@ kind_stands refused unknown form (word bytes line column ∷ items) lack kind pl
     unrefused (line, column) (refused kind) (first_of_both _ _ (rw h.0 at clean)).0
 kind_stands refused unknown form (bad line column ∷ items) lack kind place h clean = absurd h
 
-pub starts : (half : ℕ) (takes : Takes) (items : List Item) (lack : Place) (kind : Kind)
-    (place : Place) → IsHeader kind place items →
-    first_in_header (refused_kind takes) NoKind (first_form half) items lack ≡ None →
+pub starts : (takes : Takes) (items : List Item) (lack : Place) (kind : Kind) (place : Place) →
+    IsHeader kind place items →
+    first_in_header (refused_kind takes) NoKind first_form items lack ≡ None →
     StartsDocument kind
-starts half takes items lack kind place h clean =
+starts takes items lack kind place h clean =
     starts_kind takes kind
-    (kind_stands (refused_kind takes) NoKind (first_form half) items lack kind place h clean)
+    (kind_stands (refused_kind takes) NoKind first_form items lack kind place h clean)
 
 -- the header behind a graph that nothing is against is that of a certificate
 certifies : (kind : Kind) → refused_behind_graph kind ≡ None → IsCertKind kind
@@ -197,7 +191,7 @@ certifies Flow clean = tt
 certifies NoFlow clean = tt
 certifies NoCausal clean = tt
 certifies Trace clean = absurd (cc clean)
-certifies Least clean = absurd (cc clean)
+certifies Least clean = tt
 certifies Gates clean = absurd (cc clean)
 
 pub starts_cert : (items : List Item) (lack : Place) (kind : Kind) (place : Place) →
@@ -207,54 +201,81 @@ starts_cert items lack kind place h clean =
     certifies kind
     (kind_stands refused_behind_graph BehindEnd plain_forms items lack kind place h clean)
 
+-- what nothing is against behind a pattern is a change, a trace or a second pattern
+stands_behind : (takes : Takes) (kind : Kind) → refused_behind_pattern takes kind ≡ None →
+    StandsBehindPattern kind
+stands_behind takes Circuit clean = absurd (cc clean)
+stands_behind takes Pattern clean = tt
+stands_behind takes Graph clean = absurd (cc clean)
+stands_behind takes Change clean = tt
+stands_behind takes Flow clean = absurd (cc clean)
+stands_behind takes NoFlow clean = absurd (cc clean)
+stands_behind takes NoCausal clean = absurd (cc clean)
+stands_behind takes Trace clean = tt
+stands_behind takes Least clean = absurd (cc clean)
+stands_behind takes Gates clean = absurd (cc clean)
+
+pub starts_second : (half : ℕ) (takes : Takes) (items : List Item) (lack : Place) (kind : Kind)
+    (place : Place) → IsHeader kind place items →
+    first_in_header (refused_behind_pattern takes) BehindEnd (form_behind_pattern half) items lack
+    ≡ None → StandsBehindPattern kind
+starts_second half takes items lack kind place h clean =
+    stands_behind takes kind
+    (kind_stands (refused_behind_pattern takes) BehindEnd (form_behind_pattern half) items lack
+    kind place h clean)
+
 -- the same for what stands behind a first section
 second_by_kind : (second : Second) (lines : List Line) (end : Place) (kind : Kind) (place : Place) →
     has_line lines ≡ true → IsHeader kind place (on_first lines end).here →
-    first_in_header second.refused BehindEnd plain_forms (on_first lines end).here
+    first_in_header second.refused BehindEnd second.form (on_first lines end).here
     (on_first lines end).lack ≡ None →
     first_behind_first second lines end
-    ≡ first_in_second second (Some kind) (on_first lines end).later end
+    ≡ first_in_second second (Some kind) (version_in (words_of (on_first lines end).here))
+    (on_first lines end).later end
 second_by_kind second [] end kind place some h clean = absurd (cc)
 second_by_kind second (line ∷ lines) end kind place some h clean =
     rw (clean, header_kind kind place line.items h) refl
 
 pub second_first : (second : Second) (lines : List Line) (end : Place) (opened headed : Left)
     (kind : Kind) (place : Place) → IsOpened lines end opened headed kind place →
-    first_in_header second.refused BehindEnd plain_forms opened.here opened.lack ≡ None →
+    first_in_header second.refused BehindEnd second.form opened.here opened.lack ≡ None →
     first_behind_first second lines end
-    ≡ first_in_second second (Some kind) headed.later headed.last
+    ≡ first_in_second second (Some kind) (version_in (words_of opened.here)) headed.later
+    headed.last
 second_first second lines end opened headed kind place o clean =
     let header = header_on lines end opened headed kind place o in
     let none = subst
-    (λ (left : Left). first_in_header second.refused BehindEnd plain_forms left.here left.lack
+    (λ (left : Left). first_in_header second.refused BehindEnd second.form left.here left.lack
     ≡ None)
     o.opens clean in
     let later = later_on lines end opened headed kind place o in
     let last = last_on lines end opened headed kind place o in
-    rw (later, last) (second_by_kind second lines end kind place o.some header none)
+    let version = ap (λ (left : Left). version_in (words_of left.here)) o.opens in
+    rw (later, last, version) (second_by_kind second lines end kind place o.some header none)
 
 -- the answer to a fault of the header of a second section
 pub second_header : (second : Second) (lines : List Line) (end : Place) (opened : Left)
     (given : TextEnd) → has_line lines ≡ true → opened ≡ on_first lines end →
-    IsEnd given (first_in_header second.refused BehindEnd plain_forms opened.here opened.lack) →
+    IsEnd given (first_in_header second.refused BehindEnd second.form opened.here opened.lack) →
     IsEnd given (first_behind_first second lines end)
 second_header second [] end opened given some opens h = absurd (cc)
 second_header second (line ∷ lines) end opened given some opens h =
     end_first given _ _ (subst (λ (left : Left). IsEnd given
-    (first_in_header second.refused BehindEnd plain_forms left.here left.lack)) opens h)
+    (first_in_header second.refused BehindEnd second.form left.here left.lack)) opens h)
 
-spelled_by_named : {A : Type 0} (spells : Kind → Lines → A) (lines : List Line) (end : Place)
-    (kind : Kind) (place : Place) → has_line lines ≡ true →
+spelled_by_named : {A : Type 0} (spells : Kind → Place → Lines → A) (lines : List Line)
+    (end : Place) (kind : Kind) (place : Place) → has_line lines ≡ true →
     IsHeader kind place (on_first lines end).here →
-    spelled_second spells lines ≡ Some (spells kind (section_lines (on_first lines end).later))
+    spelled_second spells lines
+    ≡ Some (spells kind place (section_lines (on_first lines end).later))
 spelled_by_named spells [] end kind place some h = absurd (cc)
 spelled_by_named spells (line ∷ lines) end kind place some h =
-    rw (header_kind kind place line.items h) refl
+    rw (header_kind kind place line.items h, place_at kind place line.items line.lack h) refl
 
-pub second_spelled : {A : Type 0} (spells : Kind → Lines → A) (lines : List Line) (end : Place)
-    (opened headed : Left) (kind : Kind) (place : Place) →
+pub second_spelled : {A : Type 0} (spells : Kind → Place → Lines → A) (lines : List Line)
+    (end : Place) (opened headed : Left) (kind : Kind) (place : Place) →
     IsOpened lines end opened headed kind place →
-    spelled_second spells lines ≡ Some (spells kind (section_lines headed.later))
+    spelled_second spells lines ≡ Some (spells kind place (section_lines headed.later))
 second_spelled spells lines end opened headed kind place o =
     let later = later_on lines end opened headed kind place o in
     let header = header_on lines end opened headed kind place o in
@@ -266,7 +287,7 @@ pub none_behind : (second : Second) (lines : List Line) (end : Place) → has_li
 none_behind second [] end none = refl
 none_behind second (line ∷ lines) end none = absurd (cc)
 
-pub none_spelled : {A : Type 0} (spells : Kind → Lines → A) (lines : List Line) →
+pub none_spelled : {A : Type 0} (spells : Kind → Place → Lines → A) (lines : List Line) →
     has_line lines ≡ false → spelled_second spells lines ≡ None
 none_spelled spells [] none = refl
 none_spelled spells (line ∷ lines) none = absurd (cc)
@@ -301,34 +322,3 @@ further_last left left' h =
     ap (λ (l : Left). l.last) h.stands
     ∙ tokens_last h.tokens (lines_on h.lines left)
     ∙ lines_last h.lines left
-
--- the rows that lines spell have sets in order, without a constant
-pub plain_rows : (names : List (List ℕ)) (rows : List SpelledRow) →
-    AllPlain (map (row_by names) rows)
-plain_rows names [] = tt
-plain_rows names (row ∷ rows) = (
-  (rising_where _ (length names), refl),
-  plain_rows names rows,
-)
-
--- the commands that lines spell have signals without a constant
-plain_command : (half : ℕ) (names : List (List ℕ)) (c : Spelled) →
-    has_constant (command_by half names c) ≡ false
-plain_command half names (spelled_n a) = refl
-plain_command half names (spelled_e a b) = refl
-plain_command half names (spelled_m a b s t) = refl
-plain_command half names (spelled_x a s) = refl
-plain_command half names (spelled_z a s) = refl
-
-plain_commands : (half : ℕ) (names : List (List ℕ)) (cs : List Spelled) →
-    list_any has_constant (map (command_by half names) cs) ≡ false
-plain_commands half names [] = refl
-plain_commands half names (c ∷ cs) =
-    rw (plain_command half names c, plain_commands half names cs) refl
-
-pub plain_result : {E : Type 0} (half : ℕ) (read : Result plain.Pattern E) (lines : Lines) →
-    IfOk read (λ p. p ≡ pattern_of half lines) → IfOk read HasNoConstants
-plain_result half (Ok p) lines same =
-    ap (λ (q : plain.Pattern). list_any has_constant q.commands) same
-    ∙ plain_commands half _ (spelled_commands lines)
-plain_result half (Err e) lines same = tt

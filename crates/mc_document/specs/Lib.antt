@@ -1,5 +1,7 @@
 pub mod Documents
 pub mod Kinds
+pub mod Places
+pub mod Samples
 pub mod Second
 pub mod Sections
-pub mod Places
+pub mod Turns

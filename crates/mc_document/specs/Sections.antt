@@ -1,37 +1,45 @@
 -- The sections of a text: its first fault or limit, and the document that it spells.
-use Rattle.std.specs.Prelude.{ℕ, List, [], ◌∷◌, Bool, false, Option, None, Some, ⊤}
+use Rattle.std.specs.Prelude.{ℕ, List, [], ◌∷◌, Bool, Option, None, Some, ⊤, unwrap_or}
 use Rattle.mc_lex.specs.declared.kind.Kind.{Kind}
-use Rattle.mc_lex.specs.declared.kind.Kind.TheVariants.{Circuit, Pattern, Graph}
+use Rattle.mc_lex.specs.declared.kind.Kind.TheVariants.{Circuit, Pattern, Graph, Change, Trace, Gates}
 use Rattle.mc_lex.specs.Lines.{Line, lines_of, end_of}
 use Rattle.mc_model.specs.Graph.{OpenGraph}
 use Rattle.mc_model.specs.Pattern as plain
-use Rattle.mc_model.specs.Shift.{ChangeRow}
 use Rattle.mc_text.specs.declared.fault.Fault.TheVariants.{NoKind}
-use Rattle.mc_text.specs.Judged.{Judgement, fault, Place, or_later, words_of}
+use Rattle.mc_text.specs.Judged.{Judgement, fault, Place, Lines, Rules, or_later, words_of}
 use Rattle.mc_text.specs.Judged.{first_in_section, section_lines, behind_section}
-use Rattle.mc_text.specs.Headers.{first_in_header, kind_in, version_in}
+use Rattle.mc_text.specs.Headers.{first_in_header, kind_in, plain_forms, version_in}
 use Rattle.mc_circuit.specs.Judge.{circuit_rules}
 use Rattle.mc_circuit.specs.Value.{circuit_of}
 use Rattle.mc_pattern_text.specs.Judge.{pattern_rules}
 use Rattle.mc_pattern_text.specs.Value.{pattern_of}
-use Rattle.mc_pattern_text.specs.ChangeJudge.{change_rules}
-use Rattle.mc_pattern_text.specs.ChangeValue.{rows_of}
+use Rattle.mc_change_text.specs.Kinds.{change_rules, rows_of}
+use Rattle.mc_trace_text.specs.Traces.{trace_rules, uses_in}
 use Rattle.mc_graph_text.specs.Judge.{graph_rules}
 use Rattle.mc_graph_text.specs.Value.{graph_in}
 use Rattle.mc_cert_text.specs.Certs.{PlainCert}
 use Rattle.mc_cert_text.specs.Kinds.{cert_in, cert_rules}
+use Rattle.mc_gates_text.specs.Judge.{gates_rules}
+use Rattle.mc_gates_text.specs.Value.{gate_list_of}
 use Rattle.mc_document.specs.declared.takes.Takes.{Takes}
-use Rattle.mc_document.specs.Documents.{PlainDocument, circuit, pattern, graph}
-use Rattle.mc_document.specs.Kinds.{first_form, refused_kind, refused_behind_pattern}
-use Rattle.mc_document.specs.Kinds.{refused_behind_graph}
+use Rattle.mc_document.specs.Documents.{PlainDocument, circuit, pattern, traced, two, graph, gates}
+use Rattle.mc_document.specs.Kinds.{first_form, form_behind_pattern, is_due_behind_pattern}
+use Rattle.mc_document.specs.Kinds.{refused_kind, refused_behind_pattern, refused_behind_graph}
 use Rattle.mc_document.specs.Second.{Second, first_behind, first_behind_first, spelled_second}
 
--- behind a pattern a change of its outcomes may stand
-abbrev pub behind_pattern : plain.Pattern → Second
-behind_pattern p = record {
-  due = false;
-  refused = refused_behind_pattern;
-  rules = λ kind. change_rules p;
+-- how the lines behind a pattern are judged, by their kind and version
+abbrev pub rules_behind_pattern : plain.Pattern → Kind → ℕ → Rules
+rules_behind_pattern p Change version = change_rules version p
+rules_behind_pattern p Trace version = trace_rules
+rules_behind_pattern p _ version = pattern_rules version
+
+-- behind a pattern a change of its outcomes or a trace may stand, or what is due
+abbrev pub behind_pattern : ℕ → Takes → plain.Pattern → Second
+behind_pattern half takes p = record {
+  due = is_due_behind_pattern takes;
+  refused = refused_behind_pattern takes;
+  form = form_behind_pattern half;
+  rules = rules_behind_pattern p;
 }
 
 -- behind a graph a certificate may stand, and must where one is due
@@ -39,20 +47,26 @@ abbrev pub behind_graph : Bool → OpenGraph → Second
 behind_graph due g = record {
   due = due;
   refused = refused_behind_graph;
-  rules = λ kind. cert_rules kind g.names;
+  form = plain_forms;
+  rules = λ kind version. cert_rules kind g.names;
 }
 
--- the first of a circuit, of a pattern, or of a graph of a version, and of what stands behind it,
+-- the first of a circuit or a list of gates, or of a pattern or a graph of a version, and of what
+-- stands behind it,
 -- with angles of so many steps in half a turn
 abbrev pub first_in_circuit : List Line → Place → Option (Judgement × Place)
 first_in_circuit lines end =
     or_later (first_in_section circuit_rules [] lines end) (first_behind (behind_section lines))
 
-abbrev pub first_in_pattern : ℕ → List Line → Place → Option (Judgement × Place)
-first_in_pattern half lines end =
-    or_later (first_in_section pattern_rules [] lines end)
-    (first_behind_first (behind_pattern (pattern_of half (section_lines lines)))
+abbrev pub first_in_pattern : ℕ → Takes → ℕ → List Line → Place → Option (Judgement × Place)
+first_in_pattern half takes version lines end =
+    or_later (first_in_section (pattern_rules version) [] lines end)
+    (first_behind_first (behind_pattern half takes (pattern_of half (section_lines lines)))
     (behind_section lines) end)
+
+abbrev pub first_in_gates : List Line → Place → Option (Judgement × Place)
+first_in_gates lines end =
+    or_later (first_in_section gates_rules [] lines end) (first_behind (behind_section lines))
 
 abbrev pub first_in_graph : ℕ → Bool → ℕ → List Line → Place → Option (Judgement × Place)
 first_in_graph half due version lines end =
@@ -64,9 +78,11 @@ first_in_graph half due version lines end =
 abbrev pub first_in_kind : ℕ → Takes → Option Kind → ℕ → List Line → Place
     → Option (Judgement × Place)
 first_in_kind half takes (Some Circuit) version lines end = first_in_circuit lines end
-first_in_kind half takes (Some Pattern) version lines end = first_in_pattern half lines end
+first_in_kind half takes (Some Pattern) version lines end =
+    first_in_pattern half takes version lines end
 first_in_kind half takes (Some Graph) version lines end =
     first_in_graph half takes.cert version lines end
+first_in_kind half takes (Some Gates) version lines end = first_in_gates lines end
 first_in_kind half takes _ version lines end = None
 
 -- the first of a document: of its header, its sections, and what stands behind
@@ -74,25 +90,32 @@ abbrev pub first_in_lines : ℕ → Takes → List Line → Place → Option (Ju
 first_in_lines half takes [] end = Some (fault NoKind, end)
 first_in_lines half takes (line ∷ lines) end =
     let header = words_of line.items in
-    or_later (first_in_header (refused_kind takes) NoKind (first_form half) line.items line.lack)
+    or_later (first_in_header (refused_kind takes) NoKind first_form line.items line.lack)
     (first_in_kind half takes (kind_in header) (version_in header) lines end)
 
 abbrev pub first_in_text : ℕ → Takes → List ℕ → Option (Judgement × Place)
 first_in_text half takes text = first_in_lines half takes (lines_of text) (end_of text)
 
--- the change that stands behind a pattern, if there is one
-abbrev pub spelled_change : plain.Pattern → List Line → Option (List ChangeRow)
-spelled_change p lines = spelled_second (λ kind lines. rows_of p.names lines) lines
+-- the document that a pattern is with what stands behind it: a section of a kind, which begins at a
+-- place and has these lines
+abbrev pub with_second : ℕ → plain.Pattern → Kind → Place → Lines → PlainDocument
+with_second half p Change place lines = pattern p (Some (rows_of p.names lines))
+with_second half p Trace place lines = traced p (uses_in lines)
+with_second half p _ place lines = two p (pattern_of half lines) place.0 place.1
+
+-- the same, where there may be no second section
+abbrev pub spelled_behind_pattern : ℕ → plain.Pattern → List Line → PlainDocument
+spelled_behind_pattern half p lines =
+    unwrap_or (spelled_second (with_second half p) lines) (pattern p None)
 
 -- the certificate that stands behind a graph, if there is one
 abbrev pub spelled_cert : OpenGraph → List Line → Option PlainCert
-spelled_cert g lines = spelled_second (λ kind lines. cert_in kind g.names lines) lines
+spelled_cert g lines = spelled_second (λ kind place lines. cert_in kind g.names lines) lines
 
 -- the pattern, or the graph, that lines spell, with what stands behind it
 abbrev pub spelled_pattern : ℕ → List Line → PlainDocument
 spelled_pattern half lines =
-    let p = pattern_of half (section_lines lines) in
-    pattern p (spelled_change p (behind_section lines))
+    spelled_behind_pattern half (pattern_of half (section_lines lines)) (behind_section lines)
 
 abbrev pub spelled_graph : ℕ → List Line → PlainDocument
 spelled_graph half lines =
@@ -104,6 +127,7 @@ abbrev pub spelled_in_kind : ℕ → Option Kind → List Line → Option PlainD
 spelled_in_kind half (Some Circuit) lines = Some (circuit (circuit_of half (section_lines lines)))
 spelled_in_kind half (Some Pattern) lines = Some (spelled_pattern half lines)
 spelled_in_kind half (Some Graph) lines = Some (spelled_graph half lines)
+spelled_in_kind half (Some Gates) lines = Some (gates (gate_list_of (section_lines lines)))
 spelled_in_kind half _ lines = None
 
 abbrev pub spelled_lines : ℕ → List Line → Option PlainDocument
@@ -119,4 +143,12 @@ abbrev pub StartsDocument : Kind → Type 0
 StartsDocument Circuit = ⊤
 StartsDocument Pattern = ⊤
 StartsDocument Graph = ⊤
+StartsDocument Gates = ⊤
 StartsDocument _ = ⊥
+
+-- the kinds that stand behind a pattern
+abbrev pub StandsBehindPattern : Kind → Type 0
+StandsBehindPattern Change = ⊤
+StandsBehindPattern Trace = ⊤
+StandsBehindPattern Pattern = ⊤
+StandsBehindPattern _ = ⊥

@@ -2,21 +2,27 @@
 
 ghost use Rattle.std.specs.Prelude.{◌≡◌, IsTrue, Some, is_some};
 ghost use Rattle.mc_cert_text.specs.Certs.{plain_cert};
-ghost use Rattle.mc_document.specs.Documents.{cert_in, circuit_in, graph_in, pattern_in};
-ghost use Rattle.mc_document.specs.Documents.{plain_document};
+ghost use Rattle.mc_document.specs.Documents.{cert_in, circuit_in, gates_in, graph_in, pattern_in};
+ghost use Rattle.mc_document.specs.Documents.{plain_document, traced_in, two_in};
 
 use mc_cert_text::Cert;
 use mc_circuit::Circuit;
+use mc_gates::GateList;
 use mc_graph::OpenGraph;
 use mc_pattern::{Change, Pattern};
+use mc_trace::Derivation;
 
-/// A document: a circuit; a pattern with or without a change of its outcomes; or an open graph with or without a
-/// certificate, which need not hold.
+/// A document: a circuit; a pattern with or without a change of its outcomes, or with a trace, which need not lead anywhere;
+/// two patterns, with the line and the column at which the second begins; an open graph with or without a certificate, which
+/// need not hold; or a list of gates.
 #[derive(Drop)]
 pub enum Document<const H: usize> {
     Circuit(Circuit<H>),
     Pattern(Pattern<H>, Option<Change>),
+    Traced(Pattern<H>, Derivation),
+    Two(Pattern<H>, Pattern<H>, u32, u32),
     Graph(OpenGraph<H>, Option<Cert>),
+    Gates(GateList),
 }
 
 /// A document, and the line and the column of its first word.
@@ -29,8 +35,8 @@ pub struct Placed<const H: usize> {
 
 impl<const H: usize> Document<H> {
     ghost use Rattle.mc_cert_text.specs.Certs.{plain_cert};
-    ghost use Rattle.mc_document.specs.Documents.{cert_in, circuit_in, graph_in, pattern_in};
-    ghost use Rattle.mc_document.specs.Documents.{plain_document};
+    ghost use Rattle.mc_document.specs.Documents.{cert_in, circuit_in, gates_in, graph_in, pattern_in};
+    ghost use Rattle.mc_document.specs.Documents.{plain_document, traced_in, two_in};
 
     /// Whether it is a circuit.
     pub fn is_circuit(&self) -> bool
@@ -43,7 +49,7 @@ impl<const H: usize> Document<H> {
     pub fn is_pattern(&self) -> bool
         ensures { result ≡ is_some (pattern_in (plain_document self.now)) }
     {
-        matches!(self, Document::Pattern(_, _))
+        matches!(self, Document::Pattern(_, _) | Document::Traced(_, _))
     }
 
     /// The circuit of a document that is one.
@@ -64,6 +70,37 @@ impl<const H: usize> Document<H> {
     {
         match self {
             Document::Pattern(pattern, _) => pattern,
+            Document::Traced(pattern, _) => pattern,
+            _ => unreachable!(),
+        }
+    }
+
+    /// Whether it is a pattern with a trace.
+    pub fn is_traced(&self) -> bool
+        ensures { result ≡ is_some (traced_in (plain_document self.now)) }
+    {
+        matches!(self, Document::Traced(_, _))
+    }
+
+    /// The pattern and the trace of a document that has one.
+    pub fn into_traced(self) -> (Pattern<H>, Derivation)
+        requires { IsTrue (is_some (traced_in (plain_document self))) }
+        ensures pattern { pattern_in (plain_document self.entry) ≡ Some result.0 }
+        ensures uses { traced_in (plain_document self.entry) ≡ Some result.1 }
+    {
+        match self {
+            Document::Traced(pattern, uses) => (pattern, uses),
+            _ => unreachable!(),
+        }
+    }
+
+    /// The two patterns of a document that has two, and the line and the column at which the second begins.
+    pub fn into_two(self) -> (Pattern<H>, Pattern<H>, u32, u32)
+        requires { IsTrue (is_some (two_in (plain_document self))) }
+        ensures { two_in (plain_document self.entry) ≡ Some result }
+    {
+        match self {
+            Document::Two(first, second, line, column) => (first, second, line, column),
             _ => unreachable!(),
         }
     }
@@ -90,6 +127,16 @@ impl<const H: usize> Document<H> {
                 Some(cert) => (graph, cert),
                 None => unreachable!(),
             },
+            _ => unreachable!(),
+        }
+    }
+    /// The list of gates of a document that is one.
+    pub fn into_gates(self) -> GateList
+        requires { IsTrue (is_some (gates_in (plain_document self))) }
+        ensures { gates_in (plain_document self.entry) ≡ Some result }
+    {
+        match self {
+            Document::Gates(gates) => gates,
             _ => unreachable!(),
         }
     }

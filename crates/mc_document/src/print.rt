@@ -1,38 +1,49 @@
 //! Printing a document.
 
-ghost use Rattle.std.specs.Prelude.{◌≡◌, ◌++◌, IfOk, OnOk, option_map};
+ghost use Rattle.std.specs.Prelude.{◌≡◌, ◌++◌, None, IfOk, OnOk, option_map};
 ghost use Rattle.mc_model.specs.Shift.{IsChangeOf};
 ghost use Rattle.mc_pattern_text.specs.Canonical.{pattern_text};
-ghost use Rattle.mc_pattern_text.specs.ChangeCanonical.{change_text};
+ghost use Rattle.mc_change_text.specs.Canonical.{change_text};
+ghost use Rattle.mc_change_text.specs.Changes.{AreSets};
+ghost use Rattle.mc_trace_text.specs.Canonical.{trace_text};
+ghost use Rattle.mc_trace_text.specs.Traces.{CanBeWritten};
 ghost use Rattle.mc_graph_text.specs.Canonical.{graph_text};
 ghost use Rattle.mc_cert_text.specs.Canonical.{cert_text};
 ghost use Rattle.mc_cert_text.specs.Certs.{HasShortNumbers, IsCertIn, IsCertOf, plain_cert};
 ghost use Rattle.mc_document.specs.Documents.{cert_behind, change_behind, document_text};
 ghost use Rattle.mc_document.specs.Documents.{IsAnyCertOf, IsAnyChangeOf, IsDocument};
-ghost use Rattle.mc_document.specs.Documents.{plain_document};
+ghost use Rattle.mc_document.specs.Documents.{plain_document, two_in};
 
 use crate::document::Document;
 use mc_cert_text::{Cert, print_cert};
+use mc_change_text::print_change;
 use mc_circuit::print_circuit;
+use mc_gates_text::print_gates;
 use mc_graph::OpenGraph;
 use mc_graph_text::print_graph;
 use mc_model::Memory;
 use mc_pattern::{Change, Pattern};
-use mc_pattern_text::{print_change, print_pattern};
+use mc_pattern_text::print_pattern;
+use mc_trace::Derivation;
+use mc_trace_text::print_trace;
 use std::alloc::Global;
 
-/// The canonical text of a document, its second section behind the first.
+/// The canonical text of a document that has no second pattern; its second section stands behind the first.
 pub fn print_document<const H: usize>(
     alloc: Global,
     document: &Document<H>,
 ) -> Result<Vec<u8>, Memory>
-    requires { IsDocument H (plain_document document.now) }
+    requires valid { IsDocument H (plain_document document.now) }
+    requires not_two { two_in (plain_document document.now) ≡ None }
     ensures { IfOk result (λ text. text.items ≡ document_text H (plain_document document.now)) }
 {
     match document {
         Document::Circuit(circuit) => print_circuit(alloc, circuit),
         Document::Pattern(pattern, change) => print_with_any(alloc, pattern, change),
         Document::Graph(graph, cert) => print_with_any_cert(alloc, graph, cert),
+        Document::Traced(pattern, uses) => print_with_trace(alloc, pattern, uses),
+        Document::Gates(gates) => print_gates(alloc, gates),
+        Document::Two(_, _, _, _) => unreachable!(),
     }
 }
 
@@ -44,7 +55,7 @@ fn print_with_any<const H: usize>(
 ) -> Result<Vec<u8>, Memory>
     requires { IsAnyChangeOf pattern.now change.now }
     ensures { IfOk result (λ text.
-        text.items ≡ pattern_text pattern.now ++ change_behind pattern.now change.now) }
+        text.items ≡ pattern_text H pattern.now ++ change_behind pattern.now change.now) }
 {
     match change {
         None => print_pattern(alloc, pattern),
@@ -59,11 +70,33 @@ pub fn print_with_change<const H: usize>(
     change: &Change,
 ) -> Result<Vec<u8>, Memory>
     requires { IsChangeOf pattern.now change.now }
-    ensures { IfOk result (λ text.
-        text.items ≡ pattern_text pattern.now ++ change_text pattern.now change.now) }
+    ensures text { IfOk result (λ text.
+        text.items ≡ pattern_text H pattern.now ++ change_text pattern.now change.now) }
+    ensures sets { OnOk result (AreSets change.now) }
 {
-    let mut text = print_pattern(alloc, pattern)?;
+    let text = print_pattern(alloc, pattern)?;
     let behind = print_change(alloc, pattern, change)?;
+    joined(text, behind)
+}
+
+/// The text of a pattern with a trace behind it.
+pub fn print_with_trace<const H: usize>(
+    alloc: Global,
+    pattern: &Pattern<H>,
+    uses: &Derivation,
+) -> Result<Vec<u8>, Memory>
+    requires { CanBeWritten uses.now }
+    ensures { IfOk result (λ text. text.items ≡ pattern_text H pattern.now ++ trace_text uses.now) }
+{
+    let text = print_pattern(alloc, pattern)?;
+    let behind = print_trace(alloc, uses)?;
+    joined(text, behind)
+}
+
+/// One text behind the other.
+fn joined(mut text: Vec<u8>, behind: Vec<u8>) -> Result<Vec<u8>, Memory>
+    ensures { IfOk result (λ both. both.items ≡ text.items ++ behind.items) }
+{
     match text.extend_from_slice(behind.as_slice()) {
         Ok(()) => Ok(text),
         Err(_) => Err(Memory),
@@ -98,10 +131,7 @@ pub fn print_with_cert<const H: usize>(
         graph_text H graph.now ++ cert_text graph.now.names (plain_cert cert.now)) }
     ensures fits { OnOk result (IsCertOf graph.now (plain_cert cert.now)) }
 {
-    let mut text = print_graph(alloc, graph)?;
+    let text = print_graph(alloc, graph)?;
     let behind = print_cert(alloc, graph, cert)?;
-    match text.extend_from_slice(behind.as_slice()) {
-        Ok(()) => Ok(text),
-        Err(_) => Err(Memory),
-    }
+    joined(text, behind)
 }

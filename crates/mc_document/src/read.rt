@@ -1,18 +1,17 @@
 //! Reading a text as a document.
 
-ghost use Rattle.std.specs.Prelude.{◌≡◌, ◌≤◌, length, [], None, Some, OnOk, IfOk, IfErr, IsTrue};
-ghost use Rattle.mc_lex.specs.Left.{IsFurther};
+ghost use Rattle.std.specs.Prelude.{◌≡◌, ◌≤◌, length, None, Some, OnOk, IfOk, IfErr, IsTrue};
 ghost use Rattle.mc_model.specs.Limits.{most_bytes};
 ghost use Rattle.mc_model.specs.Steps.{is_permitted};
-ghost use Rattle.mc_text.specs.Judged.{behind_section, first_in_section, section_lines};
+ghost use Rattle.mc_text.specs.Judged.{section_lines};
 ghost use Rattle.mc_text.specs.Stops.{IsEnd};
 ghost use Rattle.mc_circuit.specs.Value.{circuit_of};
-ghost use Rattle.mc_pattern_text.specs.Judge.{pattern_rules};
-ghost use Rattle.mc_pattern_text.specs.Value.{pattern_of};
-ghost use Rattle.mc_document.specs.Documents.{HasNoConstants, IsDocument, plain_document};
+ghost use Rattle.mc_gates.specs.Lists.{IsGateList};
+ghost use Rattle.mc_gates_text.specs.Value.{gate_list_of};
+ghost use Rattle.mc_document.specs.Documents.{IsDocument, plain_document};
 ghost use Rattle.mc_document.specs.Kinds.{IsTaken};
-ghost use Rattle.mc_document.specs.Sections.{StartsDocument, first_in_circuit, first_in_graph};
-ghost use Rattle.mc_document.specs.Sections.{first_in_kind, first_in_lines, first_in_pattern};
+ghost use Rattle.mc_document.specs.Sections.{StartsDocument, first_in_circuit, first_in_gates};
+ghost use Rattle.mc_document.specs.Sections.{first_in_graph, first_in_kind, first_in_lines, first_in_pattern};
 ghost use Rattle.mc_document.specs.Sections.{first_in_text, spelled, spelled_graph};
 ghost use Rattle.mc_document.specs.Sections.{spelled_in_kind, spelled_lines, spelled_pattern};
 ghost use Rattle.mc_document.specs.Places.{first_place, place_in_lines};
@@ -21,9 +20,10 @@ use crate::document::{Document, Placed};
 use crate::second::{read_behind_graph, read_behind_pattern, read_nothing};
 use crate::takes::{First, Takes};
 use mc_circuit::{Circuit, read_circuit};
+use mc_gates::GateList;
+use mc_gates_text::read_gates;
 use mc_graph_text::read_graph;
 use mc_lex::{Kind, TextEnd, Words};
-use mc_pattern::Pattern;
 use mc_pattern_text::read_pattern;
 use mc_text::{Fault, Header, read_header};
 use std::alloc::Global;
@@ -94,7 +94,7 @@ fn read_opening<const H: usize>(takes: Takes, words: &mut Words<'_>) -> Result<H
         let (line, column) = words.end_place();
         return Err(Fault::NoKind.at(line, column));
     }
-    match read_header(&First::<H> { takes }, words) {
+    match read_header(&First { takes }, words) {
         Ok(header) => Ok(header),
         Err(end) => Err(end),
     }
@@ -122,7 +122,11 @@ fn read_sections<const H: usize>(
             Ok(circuit) => Ok(Document::Circuit(circuit)),
             Err(end) => Err(end),
         },
-        Kind::Pattern => read_pattern_document(alloc, words),
+        Kind::Pattern => read_pattern_document(alloc, words, header.version, takes),
+        Kind::Gates => match read_gates_alone(alloc, words) {
+            Ok(gates) => Ok(Document::Gates(gates)),
+            Err(end) => Err(end),
+        },
         Kind::Graph => read_graph_document(alloc, words, header.version, takes.cert),
         _ => unreachable!(),
     }
@@ -148,24 +152,42 @@ fn read_circuit_alone<const H: usize>(
     }
 }
 
-/// Reads the lines of a pattern, behind which a change may stand, and nothing more.
+/// Reads the lines of a list of gates, behind which nothing more may stand.
+fn read_gates_alone(alloc: Global, words: &mut Words<'_>) -> Result<GateList, TextEnd>
+    ensures clean { OnOk result (first_in_gates words.old.later words.old.last ≡ None) }
+    ensures value { IfOk result (λ g. g ≡ gate_list_of (section_lines words.old.later)) }
+    ensures valid { IfOk result IsGateList }
+    ensures err { IfErr result (λ end. IsEnd end (first_in_gates words.old.later words.old.last)) }
+{
+    let gates = match read_gates(alloc, words) {
+        Ok(gates) => gates,
+        Err(end) => return Err(end),
+    };
+    let _names = gates.names();
+    match read_nothing(words) {
+        Ok(()) => Ok(gates),
+        Err(end) => Err(end),
+    }
+}
+
+/// Reads the lines of a pattern of a version, with what may or must stand behind it, and nothing more.
 fn read_pattern_document<const H: usize>(
     alloc: Global,
     words: &mut Words<'_>,
+    version: u8,
+    takes: Takes,
 ) -> Result<Document<H>, TextEnd>
     requires { IsTrue (is_permitted H) }
-    ensures clean { OnOk result (first_in_pattern H words.old.later words.old.last ≡ None) }
+    ensures clean { OnOk result
+        (first_in_pattern H takes version words.old.later words.old.last ≡ None) }
     ensures value { IfOk result (λ document.
         spelled_pattern H words.old.later ≡ plain_document document) }
     ensures valid { IfOk result (λ document. IsDocument H (plain_document document)) }
-    ensures err { IfErr result (λ end. IsEnd end (first_in_pattern H words.old.later words.old.last)) }
+    ensures err { IfErr result (λ end.
+        IsEnd end (first_in_pattern H takes version words.old.later words.old.last)) }
 {
-    let pattern = match read_plain_pattern(alloc, words) {
-        Ok(pattern) => pattern,
-        Err(end) => return Err(end),
-    };
-    match read_behind_pattern(alloc, words, &pattern) {
-        Ok(change) => Ok(Document::Pattern(pattern, change)),
+    match read_pattern(alloc, words, version) {
+        Ok(pattern) => read_behind_pattern(alloc, words, pattern, takes),
         Err(end) => Err(end),
     }
 }
@@ -194,20 +216,4 @@ fn read_graph_document<const H: usize>(
         Ok(cert) => Ok(Document::Graph(graph, cert)),
         Err(end) => Err(end),
     }
-}
-
-/// Reads the lines of a pattern, whose signals have no constant.
-fn read_plain_pattern<const H: usize>(
-    alloc: Global,
-    words: &mut Words<'_>,
-) -> Result<Pattern<H>, TextEnd>
-    requires { IsTrue (is_permitted H) }
-    ensures clean { OnOk result (first_in_section pattern_rules [] words.old.later words.old.last ≡ None) }
-    ensures value { IfOk result (λ pattern. pattern ≡ pattern_of H (section_lines words.old.later)) }
-    ensures plain { IfOk result HasNoConstants }
-    ensures behind { OnOk result (words.new.later ≡ behind_section words.old.later) }
-    ensures further { IsFurther words.old words.new }
-    ensures err { IfErr result (λ end. IsEnd end (first_in_section pattern_rules [] words.old.later words.old.last)) }
-{
-    read_pattern(alloc, words)
 }

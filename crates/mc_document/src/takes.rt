@@ -1,24 +1,44 @@
 //! The kinds of document that a command takes.
 
 ghost use Rattle.std.specs.Prelude.{◌≡◌};
-ghost use Rattle.mc_document.specs.Kinds.{graph_form, unless_taken};
+ghost use Rattle.mc_document.specs.Kinds.{unless_stands, unless_taken};
 
 use mc_lex::Kind;
 use mc_text::{Fault, Form, Kinds, Turning};
 
-/// The kinds of document that a command takes. A change may stand behind a pattern, and a certificate behind a graph;
-/// with `cert` one must stand there.
+/// The kinds of document that a command takes. A change or a trace may stand behind a pattern, and a certificate behind a
+/// graph; with `cert` a certificate must stand there, with `trace` a trace, and with `two` a second pattern.
 #[derive(Clone, Copy, Debug, PartialEq, Eq)]
 pub struct Takes {
     pub circuit: bool,
     pub pattern: bool,
     pub graph: bool,
     pub cert: bool,
+    pub trace: bool,
+    pub two: bool,
+    pub gates: bool,
 }
 
 impl Takes {
-    ghost use Rattle.mc_document.specs.Kinds.{circuits_and_patterns, every_kind, only_circuits};
-    ghost use Rattle.mc_document.specs.Kinds.{only_patterns, patterns_and_graphs, certified_graphs};
+    ghost use Rattle.mc_document.specs.Kinds.{certified_graphs, certified_kinds, every_kind};
+    ghost use Rattle.mc_document.specs.Kinds.{circuits_and_patterns, every_source, is_due_behind_pattern, no_kind};
+    ghost use Rattle.mc_document.specs.Kinds.{only_circuits, only_gates, patterns_and_graphs};
+    ghost use Rattle.mc_document.specs.Kinds.{two_patterns};
+
+    /// No document at all.
+    fn none() -> Takes
+        ensures { result ≡ no_kind }
+    {
+        Takes {
+            circuit: false,
+            pattern: false,
+            graph: false,
+            cert: false,
+            trace: false,
+            two: false,
+            gates: false,
+        }
+    }
 
     /// Circuits alone.
     pub fn circuits() -> Takes
@@ -26,21 +46,7 @@ impl Takes {
     {
         Takes {
             circuit: true,
-            pattern: false,
-            graph: false,
-            cert: false,
-        }
-    }
-
-    /// Patterns alone.
-    pub fn patterns() -> Takes
-        ensures { result ≡ only_patterns }
-    {
-        Takes {
-            circuit: false,
-            pattern: true,
-            graph: false,
-            cert: false,
+            ..Takes::none()
         }
     }
 
@@ -49,10 +55,8 @@ impl Takes {
         ensures { result ≡ circuits_and_patterns }
     {
         Takes {
-            circuit: true,
             pattern: true,
-            graph: false,
-            cert: false,
+            ..Takes::circuits()
         }
     }
 
@@ -61,10 +65,29 @@ impl Takes {
         ensures { result ≡ patterns_and_graphs }
     {
         Takes {
-            circuit: false,
             pattern: true,
             graph: true,
-            cert: false,
+            ..Takes::none()
+        }
+    }
+
+    /// Circuits, patterns and graphs.
+    pub fn sources() -> Takes
+        ensures { result ≡ every_source }
+    {
+        Takes {
+            graph: true,
+            ..Takes::circuits_and_patterns()
+        }
+    }
+
+    /// Every kind of document that there is, two patterns aside.
+    pub fn all() -> Takes
+        ensures { result ≡ every_kind }
+    {
+        Takes {
+            gates: true,
+            ..Takes::sources()
         }
     }
 
@@ -73,23 +96,49 @@ impl Takes {
         ensures { result ≡ certified_graphs }
     {
         Takes {
-            circuit: false,
-            pattern: false,
             graph: true,
             cert: true,
+            ..Takes::none()
         }
     }
 
-    /// Every kind of document that there is.
-    pub fn all() -> Takes
-        ensures { result ≡ every_kind }
+    /// Graphs, each with a certificate, and patterns, each with a trace.
+    pub fn certified() -> Takes
+        ensures { result ≡ certified_kinds }
     {
         Takes {
-            circuit: true,
-            pattern: true,
-            graph: true,
-            cert: false,
+            cert: true,
+            trace: true,
+            ..Takes::patterns_and_graphs()
         }
+    }
+
+    /// Patterns, each with a second pattern.
+    pub fn two_patterns() -> Takes
+        ensures { result ≡ two_patterns }
+    {
+        Takes {
+            pattern: true,
+            two: true,
+            ..Takes::none()
+        }
+    }
+
+    /// Lists of gates alone.
+    pub fn gates() -> Takes
+        ensures { result ≡ only_gates }
+    {
+        Takes {
+            gates: true,
+            ..Takes::none()
+        }
+    }
+
+    /// Whether something must stand behind a pattern.
+    pub(crate) fn is_due_behind_pattern(&self) -> bool
+        ensures { result ≡ is_due_behind_pattern self.now }
+    {
+        self.two || self.trace
     }
 }
 
@@ -104,27 +153,20 @@ fn unless_taken(taken: bool) -> Option<Fault>
     }
 }
 
-/// What the header of a graph may say, with so many steps in half a turn.
-fn graph_form(half: usize) -> Form
-    ensures { result ≡ graph_form half }
+/// The fault of a kind that may not stand behind a first section.
+fn unless_stands(stands: bool) -> Option<Fault>
+    ensures { result ≡ unless_stands stands }
 {
-    Form {
-        second: true,
-        turning: if half == 8 {
-            Turning::Like(8)
-        } else {
-            Turning::Unsaid
-        },
-    }
+    if stands { None } else { Some(Fault::BehindEnd) }
 }
 
-/// The kinds with which a document may begin, with angles of `H` steps in half a turn.
+/// The kinds with which a document may begin.
 #[derive(Clone, Copy)]
-pub(crate) struct First<const H: usize> {
+pub(crate) struct First {
     pub(crate) takes: Takes,
 }
 
-impl<const H: usize> Kinds for First<H> {
+impl Kinds for First {
     ghost use Rattle.mc_text.specs.declared.fault.Fault.TheVariants.{NoKind};
     ghost use Rattle.mc_document.specs.Kinds.{first_form, refused_kind};
 
@@ -132,13 +174,14 @@ impl<const H: usize> Kinds for First<H> {
 
     ghost unknown = { λ _. NoKind };
 
-    ghost form = { λ _. first_form H };
+    ghost form = { λ _. first_form };
 
     fn refused(&self, kind: Kind) -> Option<Fault> {
         match kind {
             Kind::Circuit => unless_taken(self.takes.circuit),
             Kind::Pattern => unless_taken(self.takes.pattern),
             Kind::Graph => unless_taken(self.takes.graph),
+            Kind::Gates => unless_taken(self.takes.gates),
             _ => Some(Fault::NoKind),
         }
     }
@@ -149,30 +192,40 @@ impl<const H: usize> Kinds for First<H> {
 
     fn form(&self, kind: Kind) -> Form {
         match kind {
-            Kind::Graph => graph_form(H),
+            Kind::Circuit => Form {
+                second: false,
+                turning: Turning::Said,
+            },
+            Kind::Pattern | Kind::Graph => Form {
+                second: true,
+                turning: Turning::Said,
+            },
             _ => Form::plain(),
         }
     }
 }
 
-/// The kinds of section that may stand behind a pattern.
+/// The kinds of section that may stand behind a pattern with angles of `H` steps in half a turn.
 #[derive(Clone, Copy)]
-pub(crate) struct BehindPattern;
+pub(crate) struct BehindPattern<const H: usize> {
+    pub(crate) takes: Takes,
+}
 
-impl Kinds for BehindPattern {
-    ghost use Rattle.mc_text.specs.Headers.{plain_forms};
+impl<const H: usize> Kinds for BehindPattern<H> {
     ghost use Rattle.mc_text.specs.declared.fault.Fault.TheVariants.{BehindEnd};
-    ghost use Rattle.mc_document.specs.Kinds.{refused_behind_pattern};
+    ghost use Rattle.mc_document.specs.Kinds.{form_behind_pattern, refused_behind_pattern};
 
-    ghost refused = { λ _. refused_behind_pattern };
+    ghost refused = { λ behind. refused_behind_pattern behind.takes };
 
     ghost unknown = { λ _. BehindEnd };
 
-    ghost form = { λ _. plain_forms };
+    ghost form = { λ _. form_behind_pattern H };
 
     fn refused(&self, kind: Kind) -> Option<Fault> {
         match kind {
-            Kind::Change => None,
+            Kind::Change => unless_stands(!self.takes.is_due_behind_pattern()),
+            Kind::Trace => unless_stands(!self.takes.two),
+            Kind::Pattern => unless_stands(self.takes.two),
             _ => Some(Fault::BehindEnd),
         }
     }
@@ -181,8 +234,18 @@ impl Kinds for BehindPattern {
         Fault::BehindEnd
     }
 
-    fn form(&self, _kind: Kind) -> Form {
-        Form::plain()
+    fn form(&self, kind: Kind) -> Form {
+        match kind {
+            Kind::Change => Form {
+                second: true,
+                turning: Turning::Unsaid,
+            },
+            Kind::Pattern => Form {
+                second: true,
+                turning: Turning::Like(H),
+            },
+            _ => Form::plain(),
+        }
     }
 }
 
@@ -203,7 +266,7 @@ impl Kinds for BehindGraph {
 
     fn refused(&self, kind: Kind) -> Option<Fault> {
         match kind {
-            Kind::Flow | Kind::NoFlow | Kind::NoCausal => None,
+            Kind::Flow | Kind::NoFlow | Kind::NoCausal | Kind::Least => None,
             _ => Some(Fault::BehindEnd),
         }
     }

@@ -1,28 +1,31 @@
 use super::*;
 use std::test::Fail;
 
-/// Reads a text as a document, and compares what is printed of it, and the place of its first word.
+/// Reads texts as documents, and compares what is printed of them.
 #[test]
 fn reads_and_prints(rt: HostRuntime) -> Result<(), Fail> {
     let alloc = rt.alloc();
-    let takes = Takes::all();
-    let text = b"pattern 1\nin a\nm a 0\nout\nend\nchange 1\no a\nend\n".as_slice();
-    let read = read_document::<4>(alloc, text, takes)?;
-    let printed = print_document(alloc, &read)?;
-    assert_eq!(&rt; printed.as_slice(), text);
-    let placed = read_placed::<4>(alloc, b"\n  circuit 1\nin\nout\nend", takes)?;
-    assert_eq!(&rt; (placed.line, placed.column), (2, 3));
+    for text in [
+        "pattern 1\nin a\nm a 0\nout\nend\nchange 2\no a !\nend\n",
+        "pattern 1\nin a\nm a 0\nout\nend\ntrace 1\nu 1 cancel\nend\n",
+        "graph 2\nin a\nn b\ne a b\nm a 1\nout b\nz b\nend\nnoflow 1\ny a : a\nend\n",
+        "gates 1\nin a\nx a\nout a\nend\n",
+    ] {
+        let read = read_document::<4>(alloc, text.as_bytes(), Takes::all())?;
+        let printed = print_document(alloc, &read)?;
+        assert_eq!(&rt; printed.as_slice(), text.as_bytes());
+    }
     Ok(())
 }
 
-/// Reads a graph with a fixed correction and a certificate, and compares what is printed of it.
+/// Reads two patterns in sixteenths, and compares the place of the second.
 #[test]
-fn keeps_certificates(rt: HostRuntime) -> Result<(), Fail> {
-    let alloc = rt.alloc();
-    let text =
-        b"graph 2\nin a\nn b\ne a b\nm a 1\nout b\nz b\nend\nnoflow 1\ny a : a\nend\n".as_slice();
-    let read = read_document::<4>(alloc, text, Takes::certified_graphs())?;
-    let printed = print_document(alloc, &read)?;
-    assert_eq!(&rt; printed.as_slice(), text);
+fn reads_two_patterns(rt: HostRuntime) -> Result<(), Fail> {
+    let text = b"\n pattern 1 turn 16\nin\nout\nend\n pattern 2\nin\nout\nend".as_slice();
+    assert_eq!(&rt; turn_of(text), 8);
+    let placed = read_placed::<8>(rt.alloc(), text, Takes::two_patterns())?;
+    assert_eq!(&rt; (placed.line, placed.column), (2, 2));
+    let (_, _, line, column) = placed.document.into_two();
+    assert_eq!(&rt; (line, column), (6, 2));
     Ok(())
 }

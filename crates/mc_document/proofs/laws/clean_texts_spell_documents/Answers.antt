@@ -1,5 +1,10 @@
 use Rattle.mc_document.proofs.Taken.{clean_spells}
+use Rattle.mc_document.proofs.ValidDocuments.{spells_valid}
 use Rattle.mc_document.proofs.laws.clean_texts_spell_documents.Goals as goal
 
-pub returns : goal.returns
-returns c = clean_spells
+pub returns-clause-taken : goal.returns-clause-taken
+returns-clause-taken c = clean_spells
+
+pub returns-clause-valid : goal.returns-clause-valid
+returns-clause-valid c = λ half permitted takes text clean.
+    spells_valid c.short_bounds_are_few.ensures half permitted takes text clean

@@ -51,7 +51,7 @@ returns-in-Ok-read_nothing-clause-value g c =
     } in
     let first = second_first (behind_graph c.args.due c.args.graph.now) _ _ _ _ _ _ o
     c.in-Ok.ensures.clean in
-    second_spelled (λ kind lines. cert_in kind c.args.graph.now.names lines) _ _ _ _ _ _ o
+    second_spelled (λ kind place lines. cert_in kind c.args.graph.now.names lines) _ _ _ _ _ _ o
     ∙ ap Some (sym c.in-Ok-read_cert.ensures.value)
 
 pub returns-in-Err-read_nothing-clause-err : goal.returns-in-Err-read_nothing-clause-err
