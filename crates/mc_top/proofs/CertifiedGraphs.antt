@@ -1,19 +1,10 @@
 -- A graph with a certificate, as a document has it.
-use Rattle.std.proofs.Common.{◌≡◌, ℕ, true, false, Option, Some, None, IsTrue, refl, sym, subst, ap₂}
-use Rattle.std.specs.Prelude.{is_some}
+use Rattle.std.proofs.Common.{◌≡◌, ℕ, Some, None, refl, subst}
 use Rattle.mc_model.specs.Graph.{OpenGraph}
 use Rattle.mc_cert_text.specs.Certs.{PlainCert, IsCertOf}
 use Rattle.mc_document.specs.Documents.{IsDocument, PlainDocument, cert_in, circuit, graph, graph_in}
-use Rattle.mc_document.specs.Documents.{pattern}
-use Rattle.mc_document.specs.Kinds.{IsTaken, certified_graphs}
+use Rattle.mc_document.specs.Documents.{gates, pattern, traced, two}
 use Rattle.mc_top.specs.Check.{certified_in}
-
-pub certified_seen : (d : PlainDocument) → IsTaken certified_graphs d →
-    IsTrue (is_some (certified_in d))
-certified_seen (circuit c) taken = absurd (cc taken)
-certified_seen (pattern p change) taken = absurd (cc taken)
-certified_seen (graph g None) taken = absurd (cc (taken.1 refl))
-certified_seen (graph g (Some cert)) taken = refl
 
 pub certified_is : (d : PlainDocument) (g : OpenGraph) (cert : PlainCert) → graph_in d ≡ Some g →
     cert_in d ≡ Some cert → certified_in d ≡ Some (g, cert)
@@ -23,6 +14,9 @@ pub certified_fits : (half : ℕ) (d : PlainDocument) (g : OpenGraph) (cert : Pl
     IsDocument half d → graph_in d ≡ Some g → cert_in d ≡ Some cert → IsCertOf g cert
 certified_fits half (circuit c) g cert valid found behind = absurd (cc found)
 certified_fits half (pattern p change) g cert valid found behind = absurd (cc found)
+certified_fits half (traced p uses) g cert valid found behind = absurd (cc found)
+certified_fits half (two p q line column) g cert valid found behind = absurd (cc found)
+certified_fits half (gates x) g cert valid found behind = absurd (cc found)
 certified_fits half (graph h None) g cert valid found behind = absurd (cc behind)
 certified_fits half (graph h (Some c)) g cert valid found behind =
     let e : h ≡ g = cc found in

@@ -82,10 +82,10 @@ outcomes_due half place digits p long =
 
 -- what is given for the translation of a circuit
 pub translated_gives : (half : ℕ) (c : Circuit) (p : Pattern) (given : Result Answer TextEnd) →
-    p ≡ translation half c → translation_limit c ≡ None → Gives given (holding (pattern_text p)) →
+    p ≡ translation half c → translation_limit c ≡ None → Gives given (holding (pattern_text half p)) →
     Gives given (due_translation half c)
 translated_gives half c p given same few h =
-    rw few (subst (λ (q : Pattern). Gives given (holding (pattern_text q))) same h)
+    rw few (subst (λ (q : Pattern). Gives given (holding (pattern_text half q))) same h)
 
 -- the pattern of a circuit, and of a pattern
 pub source_of_circuit : (half : ℕ) (d : PlainDocument) (c : Circuit) (p : Pattern) →

@@ -1,5 +1,7 @@
 pub mod Dues
 pub mod Serving
+pub mod Tracing
+pub mod ChosenDue
 pub mod ChangesFit
 pub mod ShiftedForms
 pub mod AllBranches
@@ -16,4 +18,9 @@ pub mod Making
 pub mod SameMade
 pub mod SameExtracted
 pub mod OneMade
+pub mod BoundsFit
+pub mod OneBound
 pub mod OneDue
+pub mod TraceLimits
+pub mod VerdictsDue
+pub mod LoweredGates

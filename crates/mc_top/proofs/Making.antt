@@ -17,6 +17,8 @@ use Rattle.mc_extract.specs.Laws.{CircuitsAreExtracted, ExtractedCircuitHasTable
 use Rattle.mc_extract.specs.Laws.{ExtractedCircuitScale, ExtractedCircuitsAreValid}
 use Rattle.mc_extract.specs.Laws.{ExtractedGatesAreEdges}
 use Rattle.mc_document.specs.Documents.{PlainDocument, circuit, graph, pattern, IsDocument}
+use Rattle.mc_document.specs.Documents.{gates, traced, two}
+use Rattle.mc_document.specs.Kinds.{IsTaken, every_source}
 use Rattle.mc_extract.specs.Extracted.{gate_count}
 use Rattle.mc_top.specs.Due.{Due, GivesDue, IsDueUnless}
 use Rattle.mc_top.specs.Extract.{gate_limit, MeansExtract}
@@ -49,13 +51,18 @@ few_by c false e none = grind (arith, nat_tests)
 few_qubits : (c : Circuit) → translation_limit c ≡ None → qubit_count c ≤ 256
 few_qubits c none = few_by c (nat_lt 256 (qubit_count c)) refl none
 
-pub makes : MakeLaws → (half : ℕ) → 0 < half → (d : PlainDocument) → IsDocument half d →
-    source_limit d ≡ None → MeansMake half d
-makes laws half positive (circuit c) valid few =
+pub makes : MakeLaws → (half : ℕ) → 0 < half → (d : PlainDocument) → IsTaken every_source d →
+    IsDocument half d → source_limit d ≡ None → MeansMake half d
+makes laws half positive (circuit c) taken valid few =
     laws.made half positive (translation half c)
     (laws.translated half c valid.valid (few_qubits c few))
-makes laws half positive (pattern p change) valid few = laws.made half positive p valid.0.valid
-makes laws half positive (graph g cert) valid few = λ sets layer flow.
+makes laws half positive (pattern p change) taken valid few =
+    laws.made half positive p valid.0.valid
+makes laws half positive (traced p uses) taken valid few =
+    laws.made half positive p valid.0.valid
+makes laws half positive (two p q line column) taken valid few = absurd (cc taken.1)
+makes laws half positive (gates g) taken valid few = absurd (cc taken)
+makes laws half positive (graph g cert) taken valid few = λ sets layer flow.
     let is_open = valid.0.open_graph in
     let zero = laws.zero half positive g is_open sets layer flow in
     record {
@@ -73,14 +80,18 @@ makes laws half positive (graph g cert) valid few = λ sets layer flow.
       exact = λ free y b. zero y b;
     }
 
-pub extracts : ExtractLaws → (half : ℕ) → 0 < half → (d : PlainDocument) → IsDocument half d →
-    source_limit d ≡ None → MeansExtract half d
-extracts laws half positive (circuit c) valid few =
+pub extracts : ExtractLaws → (half : ℕ) → 0 < half → (d : PlainDocument) →
+    IsTaken every_source d → IsDocument half d → source_limit d ≡ None → MeansExtract half d
+extracts laws half positive (circuit c) taken valid few =
     laws.extracted half positive (translation half c)
     (laws.translated half c valid.valid (few_qubits c few))
-extracts laws half positive (pattern p change) valid few =
+extracts laws half positive (pattern p change) taken valid few =
     laws.extracted half positive p valid.0.valid
-extracts laws half positive (graph g cert) valid few = λ next layer flow.
+extracts laws half positive (traced p uses) taken valid few =
+    laws.extracted half positive p valid.0.valid
+extracts laws half positive (two p q line column) taken valid few = absurd (cc taken.1)
+extracts laws half positive (gates g) taken valid few = absurd (cc taken)
+extracts laws half positive (graph g cert) taken valid few = λ next layer flow.
     let is_open = valid.0.open_graph in
     record {
       valid = laws.valid half g is_open next layer flow;

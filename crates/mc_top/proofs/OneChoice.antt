@@ -1,5 +1,6 @@
 -- A graph has at most one chosen flow and at most one chosen refuter, as rows.
-use Rattle.std.proofs.Common.{◌≡◌, ◌≢◌, ◌⊎◌, ℕ, zero, suc, ◌+◌, ◌<◌, ◌≤◌, Bool, true, false, not, cond, ◌||◌}
+use Rattle.std.proofs.Common.{◌≡◌, ◌≢◌, ◌⊎◌, ℕ, zero, suc, ◌+◌, ◌<◌}
+use Rattle.std.proofs.Common.{◌≤◌, Bool, true, false, not, cond, ◌||◌}
 use Rattle.std.proofs.Common.{List, [], ◌∷◌, map, Option, Some, None, refl, sym, ap, ap₂, subst, ◌∙◌}
 use Rattle.std.proofs.Common.{inl, inr, arith}
 use Rattle.std.specs.Prelude.{nat_eq, nat_lt, count_by, All, fold, max, option_map, unwrap_or, ⊤}
@@ -36,7 +37,7 @@ not_both is_after is_after' n s t compare p q =
     by (inr (inr h)) =
         true≢false (sym p.holds ∙ q.same_after p.last p.vertex h ∙ p.lacks)
 
-least_once : (is_after is_after' : ℕ → ℕ → Type 0) (n : ℕ) (P Q : Bits → Type 0) (s t : Bits) →
+pub least_once : (is_after is_after' : ℕ → ℕ → Type 0) (n : ℕ) (P Q : Bits → Type 0) (s t : Bits) →
     ((j k : ℕ) → j < n → k < n → (j ≡ k) ⊎ (is_after j k ⊎ is_after' k j)) →
     (P t) → (Q s) → IsLeastSet is_after n P s → IsLeastSet is_after' n Q t → SameBelow n s t
 least_once is_after is_after' n P Q s t compare has has' p q =
@@ -108,15 +109,15 @@ same_sets g sets sets' layer layer' p q u l inner =
 abbrev by_row : FlowLine → ℕ
 by_row r = r.vertex
 
-one_at_most : (b : Bool) (n : ℕ) → n ≡ cond b 1 0 → n ≤ 1
+pub one_at_most : (b : Bool) (n : ℕ) → n ≡ cond b 1 0 → n ≤ 1
 one_at_most true n e = omega arith
 one_at_most false n e = omega arith
 
-none_where : (out : Bool) (n : ℕ) → n ≡ cond (not out) 1 0 → 1 ≤ n → out ≡ false
+pub none_where : (out : Bool) (n : ℕ) → n ≡ cond (not out) 1 0 → 1 ≤ n → out ≡ false
 none_where false n e some = refl
 none_where true n e some = absurd (omega arith)
 
-one_where : (out : Bool) (n : ℕ) → out ≡ false → n ≡ cond (not out) 1 0 → 1 ≤ n
+pub one_where : (out : Bool) (n : ℕ) → out ≡ false → n ≡ cond (not out) 1 0 → 1 ≤ n
 one_where false n inner e = omega arith
 one_where true n inner e = absurd (true≢false inner)
 
@@ -130,7 +131,7 @@ in_below vertex n (r ∷ rows) x below (inr h) =
     in_below vertex n rows x (All-tail (λ q. q < n) (vertex r) (map vertex rows) below) h
 
 -- two sets of numbers below a bound that agree below it
-same_everywhere : (n : ℕ) (s t : Bits) → ((k : ℕ) → s k ≡ true → k < n) →
+pub same_everywhere : (n : ℕ) (s t : Bits) → ((k : ℕ) → s k ≡ true → k < n) →
     ((k : ℕ) → t k ≡ true → k < n) → SameBelow n s t → (k : ℕ) → s k ≡ t k
 same_everywhere n s t within within' same k =
     by (s k) (t k) (within k) (within' k) (same k)
@@ -273,7 +274,7 @@ refutes_too g B C s u same h = record {
   even = λ w l inner out. h.even w l inner (same w l ∙ out);
 }
 
-member_below : (n : ℕ) (s : List ℕ) → All (λ k. k < n) s → (k : ℕ) → is_member s k ≡ true → k < n
+pub member_below : (n : ℕ) (s : List ℕ) → All (λ k. k < n) s → (k : ℕ) → is_member s k ≡ true → k < n
 member_below n s all k e = in_all (λ (k : ℕ). k < n) k s all (member_in s k e)
 
 same_refuter_line : (r s : RefuterLine) → r.vertex ≡ s.vertex → r.set ≡ s.set → r ≡ s
@@ -296,7 +297,7 @@ same_refuted g rows rows' h h' v l =
     by false true to from = from refl
     by false false to from = refl
 
-below_or_above : (j k : ℕ) → (j ≡ k) ⊎ ((j < k) ⊎ (k < j))
+pub below_or_above : (j k : ℕ) → (j ≡ k) ⊎ ((j < k) ⊎ (k < j))
 below_or_above j k = grind arith
 
 refuter_elsewhere : (g : OpenGraph) (rows rows' : List RefuterLine) → IsChosenRefuterOf g rows →

@@ -1,5 +1,6 @@
 -- What is made by the chosen flow, and extracted by the chosen causal flow, is one.
-use Rattle.std.proofs.Common.{◌≡◌, ◌≢◌, ◌⊎◌, ℕ, ◌<◌, ◌≤◌, Bool, false, List, [], ◌∷◌, refl, sym, ap}
+use Rattle.std.proofs.Common.{◌≡◌, ◌≢◌, ◌⊎◌, ℕ, ◌<◌, ◌≤◌, Bool, false}
+use Rattle.std.proofs.Common.{List, [], ◌∷◌, refl, sym, ap}
 use Rattle.std.proofs.Common.{◌∙◌}
 use Rattle.std.proofs.Common.{◌||◌, arith, inl, inr}
 use Rattle.std.specs.Prelude.{nat_eq, All}

@@ -1,5 +1,6 @@
 -- The numbers of samples, and sums of bytes.
-use Rattle.std.proofs.Common.{◌≡◌, ◌∙◌, ℕ, ◌+◌, ◌*◌, ◌%◌, ◌/◌, ◌≤◌, ◌<◌, List, Bool, true, false}
+use Rattle.std.proofs.Common.{◌≡◌, ◌∙◌, ℕ, ◌+◌, ◌*◌, ◌%◌, ◌/◌}
+use Rattle.std.proofs.Common.{◌≤◌, ◌<◌, List, Bool, true, false}
 use Rattle.std.proofs.Common.{Some}
 use Rattle.std.proofs.Common.{None, length, take, slice_index_or, refl, ap, sym, arith, sum, IsTrue}
 use Rattle.std.proofs.lemmas.List.Sums.{sum_by_more}

@@ -1,49 +1,52 @@
 -- Something is due for every text, and what was given for it decides the status.
-use Rattle.std.proofs.Common.{◌≡◌, ◌⊎◌, ℕ, ◌+◌, ◌<◌, ◌≤◌, List, ◌++◌, length, Bool, true, false}
+use Rattle.std.proofs.Common.{◌≡◌, ℕ, ◌+◌, ◌<◌, ◌≤◌, List, length, Bool, true, false}
 use Rattle.std.proofs.Common.{nat_lt, Option, Some, None, Result, Ok, Err, refl, sym, subst, ap}
 use Rattle.std.proofs.Common.{inl, inr, ◌∙◌, arith, IsTrue, length-append}
-use Rattle.std.specs.Prelude.{is_some, IsSomeAnd, IfSome, OnOk, if◌then◌else◌, ⊤}
+use Rattle.std.specs.Prelude.{is_some, IsSomeAnd, IfSome, OnOk, if◌then◌else◌}
 use Rattle.std.specs.Option.{option_map, option_or}
-use Rattle.std.specs.Io.KnownBytes.{Consumes}
 use Rattle.std.proofs.lemmas.Bool.Decides.{nat_tests}
 use Rattle.mc_io.specs.Calls.{Reads, ReadsOnThen}
 use Rattle.mc_io.specs.Told.{AppendsPrefix, AppendsWhereTold, Takes}
 use Rattle.mc_lex.specs.declared.end.TextEnd.{TextEnd}
 use Rattle.mc_lex.specs.declared.end.TextEnd.TheVariants as end
-use Rattle.mc_model.specs.Pattern.{Circuit, Pattern}
+use Rattle.mc_model.specs.Pattern.{Circuit}
 use Rattle.mc_model.specs.Translation.{translation}
 use Rattle.mc_text.specs.Judged.{Judgement, Place}
 use Rattle.mc_text.specs.Stops.{answered, IsEnd}
 use Rattle.mc_document.specs.declared.takes.Takes as takes
 use Rattle.mc_document.specs.Documents as document
 use Rattle.mc_document.specs.Documents.{IsDocument, PlainDocument, circuit_in, document_text}
-use Rattle.mc_document.specs.Documents.{pattern_in}
-use Rattle.mc_document.specs.Kinds.{IsTaken, circuits_and_patterns, only_circuits}
-use Rattle.mc_document.specs.Kinds.{patterns_and_graphs}
+use Rattle.mc_document.specs.Documents.{gates_in, pattern_in, two_in}
+use Rattle.mc_document.specs.Kinds.{two_patterns}
+use Rattle.mc_document.specs.Kinds.{IsTaken, circuits_and_patterns, every_source, only_circuits}
+use Rattle.mc_document.specs.Kinds.{only_gates, patterns_and_graphs}
 use Rattle.mc_document.specs.Places.{first_place}
 use Rattle.mc_document.specs.Sections.{first_in_text, spelled}
+use Rattle.mc_document.specs.Turns.{half_of}
+use Rattle.mc_trace.specs.Judging.{EveryTraceIsJudged}
 use Rattle.mc_top.specs.declared.answer.Answer.{Answer}
 use Rattle.mc_top.specs.declared.status.Status.{Status}
 use Rattle.mc_top.specs.declared.status.Status.TheVariants as status
 use Rattle.mc_top.specs.Commands.{Asked, translate, print, standard, shift, run, run_branch}
 use Rattle.mc_top.specs.Commands.{check, chooses, command_of, compile, extract, flow, graph}
-use Rattle.mc_top.specs.Commands.{make}
+use Rattle.mc_top.specs.Commands.{beside, chain, least, lower, make, trace}
 use Rattle.mc_top.specs.Due.{Due, answer, refusal, holding, Gives, GivesDue, IsDueUnless}
 use Rattle.mc_top.specs.Ends.{status_by_end}
 use Rattle.mc_top.specs.Requests.{Request}
 use Rattle.mc_top.specs.Serve.{Appends, IsAnsweredFor, IsDue, IsDueIn, IsDueSpelled, IsStatus}
-use Rattle.mc_top.specs.Serve.{MakesReadsFor, MeansIn, half_of, too_long}
-use Rattle.mc_top.specs.Check.{certified_in}
+use Rattle.mc_top.specs.Serve.{MakesReadsFor, MeansIn, too_long}
 use Rattle.mc_top.specs.Source.{run_source_in, source_in}
-use Rattle.mc_top.proofs.CertifiedGraphs.{certified_seen}
+use Rattle.mc_top.proofs.VerdictsDue.{check_due}
 
 -- ---- something is due
 
--- what a kind that is taken has to look at
+-- what a kind that is taken has to look at, and that every trace is judged
 pub record AreSeen : Type 0 where
   pub circuit : (d : PlainDocument) → IsTaken only_circuits d → IsTrue (is_some (circuit_in d))
   pub other : (d : PlainDocument) → IsTaken circuits_and_patterns d →
       is_some (circuit_in d) ≡ false → IsTrue (is_some (pattern_in d))
+  pub two : (d : PlainDocument) → IsTaken two_patterns d → IsTrue (is_some (two_in d))
+  pub judged : EveryTraceIsJudged
 
 -- what there is of an option
 some_value : {A : Type 0} (o : Option A) → IsTrue (is_some o) → (x : A) × (o ≡ Some x)
@@ -71,19 +74,33 @@ source_seen seen half d taken = by_circuit (circuit_in d) (seen.other d taken)
     by_circuit (Some c) h = refl
 
 -- what is run where the document is no circuit
-run_seen : (d : PlainDocument) → is_some (circuit_in d) ≡ false →
+run_seen : (d : PlainDocument) → IsTaken every_source d → is_some (circuit_in d) ≡ false →
     IsTrue (is_some (run_source_in d))
-run_seen (document.circuit c) none = absurd (cc none)
-run_seen (document.pattern p change) none = refl
-run_seen (document.graph g cert) none = refl
+run_seen (document.circuit c) taken none = absurd (cc none)
+run_seen (document.pattern p change) taken none = refl
+run_seen (document.traced p uses) taken none = refl
+run_seen (document.two p q line column) taken none = absurd (cc taken.1)
+run_seen (document.graph g cert) taken none = refl
+run_seen (document.gates g) taken none = absurd (cc taken)
 
 branch_seen : (d : PlainDocument) → IsTaken patterns_and_graphs d →
     IsTrue (is_some (run_source_in d))
 branch_seen (document.circuit c) taken = absurd (cc taken)
 branch_seen (document.pattern p change) taken = refl
+branch_seen (document.traced p uses) taken = refl
+branch_seen (document.two p q line column) taken = absurd (cc taken.1)
 branch_seen (document.graph g cert) taken = refl
+branch_seen (document.gates g) taken = absurd (cc taken)
 
-command_due : AreSeen → (asked : Asked) (half : ℕ) (place : Place) (d : PlainDocument) →
+gates_seen : (d : PlainDocument) → IsTaken only_gates d → IsTrue (is_some (gates_in d))
+gates_seen (document.circuit c) taken = absurd (cc taken)
+gates_seen (document.pattern p change) taken = absurd (cc taken.0)
+gates_seen (document.traced p uses) taken = absurd (cc taken.0)
+gates_seen (document.two p q line column) taken = absurd (cc taken.0)
+gates_seen (document.graph g cert) taken = absurd (cc taken.0)
+gates_seen (document.gates g) taken = refl
+
+pub command_due : AreSeen → (asked : Asked) (half : ℕ) (place : Place) (d : PlainDocument) →
     chooses asked ≡ false → IsTaken (command_of asked).takes d →
     (due : Due) × (command_of asked).IsDue half place d due
 command_due seen translate half place d plain taken = mapped _ (circuit_in d) (seen.circuit d taken)
@@ -93,7 +110,7 @@ command_due seen standard half place d plain taken =
 command_due seen shift half place d plain taken =
     mapped _ (source_in half d) (source_seen seen half d taken)
 command_due seen run half place d plain taken =
-    one_of _ _ (circuit_in d) (run_source_in d) (run_seen d)
+    one_of _ _ (circuit_in d) (run_source_in d) (run_seen d taken)
 command_due seen (run_branch outcomes) half place d plain taken =
     mapped _ (run_source_in d) (branch_seen d taken)
 command_due seen graph half place d plain taken =
@@ -102,21 +119,25 @@ command_due seen flow half place d plain taken = absurd (cc plain)
 command_due seen make half place d plain taken = absurd (cc plain)
 command_due seen extract half place d plain taken = absurd (cc plain)
 command_due seen compile half place d plain taken = absurd (cc plain)
-command_due seen check half place d plain taken =
-    mapped _ (certified_in d) (certified_seen d taken)
+command_due seen least half place d plain taken = absurd (cc plain)
+command_due seen lower half place d plain taken = mapped _ (gates_in d) (gates_seen d taken)
+command_due seen chain half place d plain taken = mapped _ (two_in d) (seen.two d taken)
+command_due seen beside half place d plain taken = mapped _ (two_in d) (seen.two d taken)
+command_due seen trace half place d plain taken = absurd (cc plain)
+command_due seen check half place d plain taken = check_due seen.judged d taken
 
-unless_due : (first : Option TextEnd) (Owed : Due → Type 0) →
+pub unless_due : (first : Option TextEnd) (Owed : Due → Type 0) →
     (first ≡ None → (due : Due) × Owed due) → (due : Due) × IsDueUnless first Owed due
 unless_due None Owed h = h refl
 unless_due (Some end) Owed h = (refusal end, refl)
 
-spelled_due : (found : Option PlainDocument) (P : PlainDocument → Type 0)
+pub spelled_due : (found : Option PlainDocument) (P : PlainDocument → Type 0)
     (Owed : PlainDocument → Due → Type 0) → IsSomeAnd found P → ((d : PlainDocument) → P d →
     (due : Due) × Owed d due) → (due : Due) × IsSomeAnd found (λ d. Owed d due)
 spelled_due None P Owed h some = absurd h
 spelled_due (Some d) P Owed h some = some d h
 
-none_answered : (first : Option (Judgement × Place)) → answered first ≡ None → first ≡ None
+pub none_answered : (first : Option (Judgement × Place)) → answered first ≡ None → first ≡ None
 none_answered None h = refl
 none_answered (Some judged) h = absurd (cc h)
 
@@ -124,23 +145,6 @@ none_answered (Some judged) h = absurd (cc h)
 abbrev pub AreTaken : Type 0
 AreTaken = (half : ℕ) (kinds : takes.Takes) (text : List ℕ) →
     first_in_text half kinds text ≡ None → IsSomeAnd (spelled half text) (IsTaken kinds)
-
-pub in_due : AreSeen → AreTaken → (half : ℕ) (asked : Asked) (text : List ℕ) →
-    chooses asked ≡ false → (due : Due) × IsDueIn half asked text due
-in_due seen are_taken half asked text plain =
-    unless_due (answered (first_in_text half (command_of asked).takes text))
-    (IsDueSpelled half asked text)
-    (λ clean. spelled_due (spelled half text) (IsTaken (command_of asked).takes)
-    ((command_of asked).IsDue half (first_place text))
-    (are_taken half (command_of asked).takes text
-    (none_answered (first_in_text half (command_of asked).takes text) clean))
-    (λ d taken. command_due seen asked half (first_place text) d plain taken))
-
-pub of_due : AreSeen → AreTaken → (asked : Asked) (text : List ℕ) → chooses asked ≡ false →
-    (due : Due) × IsDue asked text due
-of_due seen are_taken asked text plain =
-    unless_due (too_long text) (IsDueIn (half_of text) asked text)
-    (λ short. in_due seen are_taken (half_of text) asked text plain)
 
 -- ---- what is given for a text
 

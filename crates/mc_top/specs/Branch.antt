@@ -1,5 +1,6 @@
 -- `run` with outcomes: the table of one branch of a pattern or of a graph.
-use Rattle.std.specs.Prelude.{ℕ, Bool, List, codes, length, nat_eq, if◌then◌else◌, Option, ◌≡◌, Some}
+use Rattle.std.specs.Prelude.{ℕ, Bool, List, codes, length, nat_eq, if◌then◌else◌, Option, ◌≡◌}
+use Rattle.std.specs.Prelude.{Some}
 use Rattle.std.specs.Prelude.{IsSomeAnd}
 use Rattle.std.specs.Option.{option_map}
 use Rattle.mc_lex.specs.declared.end.TextEnd.TheVariants as end

@@ -6,7 +6,8 @@ use Rattle.std.specs.Cmp.Lexicographic.{pointwise}
 use Rattle.mc_top.specs.declared.task.Task.{Task}
 use Rattle.mc_top.specs.declared.task.Task.TheVariants.{Translate, Print, Standard, Shift, Run}
 use Rattle.mc_top.specs.declared.task.Task.TheVariants.{RunBranch, Graph, Flow, Check}
-use Rattle.mc_top.specs.declared.task.Task.TheVariants.{Make, Extract, Compile}
+use Rattle.mc_top.specs.declared.task.Task.TheVariants.{Make, Extract, Compile, Trace}
+use Rattle.mc_top.specs.declared.task.Task.TheVariants.{Chain, Beside, Lower, Least}
 use Rattle.mc_top.specs.Command.{Command}
 use Rattle.mc_top.specs.Translate.{translate_command}
 use Rattle.mc_top.specs.Print.{print_command}
@@ -20,6 +21,11 @@ use Rattle.mc_top.specs.Check.{check_command}
 use Rattle.mc_top.specs.Make.{make_command}
 use Rattle.mc_top.specs.Extract.{extract_command}
 use Rattle.mc_top.specs.Compile.{compile_command}
+use Rattle.mc_top.specs.Trace.{trace_command}
+use Rattle.mc_top.specs.Chain.{chain_command}
+use Rattle.mc_top.specs.Beside.{beside_command}
+use Rattle.mc_top.specs.Lower.{lower_command}
+use Rattle.mc_top.specs.Least.{least_command}
 
 -- what may be asked for
 pub data Asked : Type 0 where
@@ -35,6 +41,11 @@ pub data Asked : Type 0 where
   make : Asked
   extract : Asked
   compile : Asked
+  trace : Asked
+  chain : Asked
+  beside : Asked
+  lower : Asked
+  least : Asked
 
 abbrev pub command_of : Asked → Command
 command_of translate = translate_command
@@ -49,6 +60,11 @@ command_of check = check_command
 command_of make = make_command
 command_of extract = extract_command
 command_of compile = compile_command
+command_of trace = trace_command
+command_of chain = chain_command
+command_of beside = beside_command
+command_of lower = lower_command
+command_of least = least_command
 
 -- whether `No` may be answered
 abbrev pub may_deny : Asked → Bool
@@ -64,8 +80,13 @@ may_deny check = true
 may_deny make = true
 may_deny extract = true
 may_deny compile = false
+may_deny trace = false
+may_deny chain = false
+may_deny beside = false
+may_deny lower = false
+may_deny least = true
 
--- whether the answer is what is chosen of a graph
+-- whether the answer is what is chosen of a graph, or a derivation
 abbrev pub chooses : Asked → Bool
 chooses translate = false
 chooses print = false
@@ -79,12 +100,17 @@ chooses check = false
 chooses make = true
 chooses extract = true
 chooses compile = true
+chooses trace = true
+chooses chain = false
+chooses beside = false
+chooses lower = false
+chooses least = true
 
 -- what one word asks for
 abbrev pub alone : List Asked
 alone =
     translate ∷ print ∷ standard ∷ shift ∷ run ∷ graph ∷ flow ∷ check
-    ∷ make ∷ extract ∷ compile ∷ []
+    ∷ make ∷ extract ∷ compile ∷ trace ∷ least ∷ chain ∷ beside ∷ lower ∷ []
 
 -- whether this is the word of a command
 abbrev pub is_asked : List ℕ → Asked → Bool
@@ -126,3 +152,8 @@ plain_task Check = check
 plain_task Make = make
 plain_task Extract = extract
 plain_task Compile = compile
+plain_task Trace = trace
+plain_task Chain = chain
+plain_task Beside = beside
+plain_task Lower = lower
+plain_task Least = least

@@ -16,7 +16,7 @@ pub record IsCompiledText (half : ℕ) (c : Circuit) (due : Due) : Type 0 where
   pub edges : ℕ
   pub depth : ℕ
   pub compilation : IsCompilation half c compiled edges depth
-  pub text : due ≡ holding (pattern_text compiled)
+  pub text : due ≡ holding (pattern_text half compiled)
 
 abbrev pub IsDueCompiled : ℕ → Circuit → Due → Type 0
 IsDueCompiled half c = IsDueUnless (translation_limit c) (IsCompiledText half c)

@@ -18,8 +18,11 @@ use Rattle.mc_extract.specs.Answers.{HasNoCausalFlow}
 use Rattle.mc_extract.specs.Extracted.{gate_count, HasZeroBranch}
 use Rattle.mc_extract.specs.Laws.{IsExtractedFrom}
 use Rattle.mc_cert_text.specs.Certs.{nocausal, IsCertOf}
-use Rattle.mc_document.specs.Documents.{PlainDocument, circuit, document_text, graph, pattern}
-use Rattle.mc_document.specs.Kinds.{every_kind}
+use Rattle.mc_document.specs.Documents.{PlainDocument, circuit, document_text, gates, graph}
+use Rattle.mc_document.specs.Documents.{pattern}
+use Rattle.mc_document.specs.Documents.{traced, two}
+use Rattle.mc_gates.specs.Lowering.{lowered}
+use Rattle.mc_document.specs.Kinds.{every_source}
 use Rattle.mc_top.specs.Due.{Due, IsDueUnless, answer, holding}
 use Rattle.mc_top.specs.GraphSource.{source_graph, IsDueFromGraph}
 use Rattle.mc_top.specs.Command.{Command}
@@ -33,7 +36,8 @@ pub record IsCircuitDue (half : ℕ) (g : OpenGraph) (due : Due) : Type 0 where
   pub flow : FlowRows
   pub chosen : IsChosenCausalFlowOf g flow
   pub text : due
-      ≡ holding (circuit_text (extracted_circuit half g (next_in flow.rows) (layer_in flow.rows)))
+      ≡ holding (circuit_text half
+      (extracted_circuit half g (next_in flow.rows) (layer_in flow.rows)))
 
 -- the graph with its chosen stuck set behind it, and `No`, where it has no causal flow
 pub record IsStuckDue (half : ℕ) (g : OpenGraph) (due : Due) : Type 0 where
@@ -57,7 +61,11 @@ IsDueExtract half d due = IsDueFromGraph half d (IsExtractDue half) due
 abbrev pub IsExtractedOf : ℕ → PlainDocument → Circuit → Type 0
 IsExtractedOf half (circuit c) extracted = IsExtractedFrom half (translation half c) extracted
 IsExtractedOf half (pattern p change) extracted = IsExtractedFrom half p extracted
+IsExtractedOf half (traced p uses) extracted = IsExtractedFrom half p extracted
+IsExtractedOf half (two p q line column) extracted = IsExtractedFrom half p extracted
 IsExtractedOf half (graph g cert) extracted = HasZeroBranch half g extracted
+IsExtractedOf half (gates g) extracted =
+    IsExtractedFrom half (translation half (lowered g)) extracted
 
 -- whatever the causal flow, the chosen one too
 abbrev pub MeansExtract : ℕ → PlainDocument → Type 0
@@ -67,7 +75,7 @@ MeansExtract half d = (next layer : ℕ → ℕ) → IsCausalFlow (source_graph 
 abbrev pub extract_command : Command
 extract_command = record {
   word = codes "extract";
-  takes = every_kind;
+  takes = every_source;
   IsDue = λ half place d due. IsDueExtract half d due;
   Means = MeansExtract;
 }

@@ -3,6 +3,7 @@ pub mod Ends
 pub mod Due
 pub mod Command
 pub mod Source
+pub mod Trace
 pub mod Translate
 pub mod Print
 pub mod Standard
@@ -12,10 +13,15 @@ pub mod Branch
 pub mod GraphSource
 pub mod Graph
 pub mod Flow
+pub mod Least
 pub mod Check
 pub mod Make
 pub mod Extract
 pub mod Compile
+pub mod TwoPatterns
+pub mod Chain
+pub mod Beside
+pub mod Lower
 pub mod Sample
 pub mod Commands
 pub mod Serve

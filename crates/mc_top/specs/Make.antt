@@ -5,25 +5,25 @@ use Rattle.mc_model.specs.Bits.{Bits}
 use Rattle.mc_model.specs.Graph.{OpenGraph}
 use Rattle.mc_model.specs.Flow.{IsFlow}
 use Rattle.mc_model.specs.Made.{flow_pattern}
-use Rattle.mc_pattern_print.specs.Canonical.{text_with_constants}
+use Rattle.mc_pattern_text.specs.Canonical.{pattern_text}
 use Rattle.mc_graph.specs.Flows.{FlowRows, IsChosenFlowOf, layer_in, sets_in}
 use Rattle.mc_make.specs.Laws.{IsMadeFrom}
 use Rattle.mc_document.specs.Documents.{PlainDocument}
-use Rattle.mc_document.specs.Kinds.{every_kind}
+use Rattle.mc_document.specs.Kinds.{every_source}
 use Rattle.mc_top.specs.Due.{Due, holding}
 use Rattle.mc_top.specs.Flow.{IsRefuterDue}
 use Rattle.mc_top.specs.GraphSource.{source_graph, source_pattern, IsDueFromGraph}
 use Rattle.mc_top.specs.Command.{Command}
 
 -- the text of the pattern that is made from the chosen flow
-pub record IsMadeDue (g : OpenGraph) (due : Due) : Type 0 where
+pub record IsMadeDue (half : ℕ) (g : OpenGraph) (due : Due) : Type 0 where
   pub flow : FlowRows
   pub chosen : IsChosenFlowOf g flow
   pub text : due
-      ≡ holding (text_with_constants (flow_pattern g (sets_in flow.rows) (layer_in flow.rows)))
+      ≡ holding (pattern_text half (flow_pattern g (sets_in flow.rows) (layer_in flow.rows)))
 
 abbrev pub IsMakingDue : ℕ → OpenGraph → Due → Type 0
-IsMakingDue half g due = IsMadeDue g due ⊎ IsRefuterDue half g due
+IsMakingDue half g due = IsMadeDue half g due ⊎ IsRefuterDue half g due
 
 abbrev pub IsDueMake : ℕ → PlainDocument → Due → Type 0
 IsDueMake half d due = IsDueFromGraph half d (IsMakingDue half) due
@@ -37,7 +37,7 @@ MeansMake half d = (sets : ℕ → Bits) (layer : ℕ → ℕ) → IsFlow (sourc
 abbrev pub make_command : Command
 make_command = record {
   word = codes "make";
-  takes = every_kind;
+  takes = every_source;
   IsDue = λ half place d due. IsDueMake half d due;
   Means = MeansMake;
 }

@@ -1,5 +1,6 @@
 -- `run`: the table of a circuit, or of all branches of a pattern or of a graph.
-use Rattle.std.specs.Prelude.{◌≡◌, ◌↔◌, ℕ, ◌^◌, ◌*◌, ◌<◌, ◌≤◌, true, false, Bool, List, ℤ, codes, Some}
+use Rattle.std.specs.Prelude.{◌≡◌, ◌↔◌, ℕ, ◌^◌, ◌*◌, ◌<◌, ◌≤◌, true}
+use Rattle.std.specs.Prelude.{false, Bool, List, ℤ, codes, Some}
 use Rattle.std.specs.Prelude.{Option, MatchOption, IsSomeAnd}
 use Rattle.std.specs.Option.{option_map, option_or}
 use Rattle.mc_model.specs.Bits.{Bits}
@@ -16,7 +17,7 @@ use Rattle.mc_run.specs.Reports.{IsLeastPhase, outcomes_of}
 use Rattle.mc_run_text.specs.Reduced.{reduced}
 use Rattle.mc_run_text.specs.Runs.{circuit_run, all_runs, branch_entries, branch_phase, is_unlike}
 use Rattle.mc_document.specs.Documents.{PlainDocument, circuit_in}
-use Rattle.mc_document.specs.Kinds.{every_kind}
+use Rattle.mc_document.specs.Kinds.{every_source}
 use Rattle.mc_top.specs.Due.{Due, due_unless, holding, run_limit}
 use Rattle.mc_top.specs.Source.{run_source_in}
 use Rattle.mc_top.specs.Command.{Command}
@@ -76,7 +77,7 @@ MeansRun half d =
 abbrev pub run_command : Command
 run_command = record {
   word = codes "run";
-  takes = every_kind;
+  takes = every_source;
   IsDue = λ half place d due. due_run half d ≡ Some due;
   Means = MeansRun;
 }

@@ -28,7 +28,7 @@ sample_number word =
 -- flow; how many bytes its text has, and their sum modulo 65,536, stand for the text
 abbrev pub summary_of : Pattern → ℕ → ℕ → Summary
 summary_of p edges depth =
-    let text = pattern_text p in
+    let text = pattern_text 4 p in
     record {
       qubits = length p.names;
       edges = edges;

@@ -12,15 +12,12 @@ use Rattle.mc_document.specs.Documents.{PlainDocument, IsDocument}
 use Rattle.mc_document.specs.Kinds.{IsTaken}
 use Rattle.mc_document.specs.Places.{first_place}
 use Rattle.mc_document.specs.Sections.{first_in_text, spelled}
+use Rattle.mc_document.specs.Turns.{half_of}
 use Rattle.mc_top.specs.declared.status.Status.{Status}
 use Rattle.mc_top.specs.declared.status.Status.TheVariants as status
 use Rattle.mc_top.specs.Commands.{Asked, command_of}
 use Rattle.mc_top.specs.Due.{Due, answer, refusal, IsDueUnless}
 use Rattle.mc_top.specs.Ends.{status_by_end}
-
--- the steps of half a turn, by which the angles of a text are read
-abbrev pub half_of : List ℕ → ℕ
-half_of text = 4
 
 -- what is due for the document that a text spells
 abbrev pub IsDueSpelled : ℕ → Asked → List ℕ → Due → Type 0

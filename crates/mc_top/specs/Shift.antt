@@ -7,7 +7,7 @@ use Rattle.mc_model.specs.Alike.{AlikeBranches}
 use Rattle.mc_model.specs.StandardForm.{standard_form}
 use Rattle.mc_model.specs.Shift.{new_outcomes, change_of, IsShiftedForm}
 use Rattle.mc_pattern_text.specs.Canonical.{pattern_text}
-use Rattle.mc_pattern_text.specs.ChangeCanonical.{change_text}
+use Rattle.mc_change_text.specs.Canonical.{change_text}
 use Rattle.mc_shift.specs.Shifted.{shifted_form}
 use Rattle.mc_document.specs.Documents.{PlainDocument}
 use Rattle.mc_document.specs.Kinds.{circuits_and_patterns}
@@ -16,12 +16,12 @@ use Rattle.mc_top.specs.Source.{source_in, due_from}
 use Rattle.mc_top.specs.Command.{Command}
 
 -- the text of the shifted form of a standard form, with the change of outcomes behind it
-abbrev pub shifted_text : Pattern → List ℕ
-shifted_text p =
-    pattern_text (shifted_form p) ++ change_text (shifted_form p) (change_of p.commands)
+abbrev pub shifted_text : ℕ → Pattern → List ℕ
+shifted_text half p =
+    pattern_text half (shifted_form p) ++ change_text (shifted_form p) (change_of p.commands)
 
 abbrev pub due_shift : ℕ → PlainDocument → Option Due
-due_shift half d = due_from half d (λ p. shifted_text (standard_form p))
+due_shift half d = due_from half d (λ p. shifted_text half (standard_form p))
 
 -- the second is the shifted form of the standard form; at every outcome list the pattern has a
 -- branch map that is alike with that of the second at the new outcomes

@@ -13,7 +13,7 @@ use Rattle.mc_top.specs.Source.{source_in, due_from}
 use Rattle.mc_top.specs.Command.{Command}
 
 abbrev pub due_standard : ℕ → PlainDocument → Option Due
-due_standard half d = due_from half d (λ p. pattern_text (standard_form p))
+due_standard half d = due_from half d (λ p. pattern_text half (standard_form p))
 
 -- at every outcome list a pattern and its standard form have branch maps that are alike
 abbrev pub IsAlikeStandardised : ℕ → Pattern → Type 0

@@ -15,7 +15,7 @@ use Rattle.mc_top.specs.Command.{Command}
 -- the text of its translation
 abbrev pub due_translation : ℕ → Circuit → Due
 due_translation half c =
-    due_unless (translation_limit c) (holding (pattern_text (translation half c)))
+    due_unless (translation_limit c) (holding (pattern_text half (translation half c)))
 
 abbrev pub due_translate : ℕ → PlainDocument → Option Due
 due_translate half d = option_map (due_translation half) (circuit_in d)

@@ -42,8 +42,9 @@ pub(crate) fn answer_branch<const H: usize>(
     branches_are_well_printed::<H>();
     match document {
         Document::Pattern(pattern, _) => answer_outcomes(alloc, place, digits, &pattern),
+        Document::Traced(pattern, _) => answer_outcomes(alloc, place, digits, &pattern),
         Document::Graph(graph, _) => answer_graph_outcomes(alloc, place, digits, &graph),
-        Document::Circuit(_) => unreachable!(),
+        _ => unreachable!(),
     }
 }
 

@@ -10,6 +10,7 @@ ghost use Rattle.mc_graph.specs.Flows.{IsCausalFlowOf, layer_in, next_in};
 ghost use Rattle.mc_extract.specs.Answers.{IsFoundStuck};
 ghost use Rattle.mc_extract.specs.Extracted.{gate_count};
 ghost use Rattle.mc_document.specs.Documents.{IsDocument, plain_document};
+ghost use Rattle.mc_document.specs.Kinds.{IsTaken, every_source};
 ghost use Rattle.mc_top.specs.Due.{GivesDue};
 ghost use Rattle.mc_top.specs.Extract.{gate_limit, IsDueExtract, IsExtractDue, IsExtractionDue};
 ghost use Rattle.mc_top.specs.Extract.{IsStuckDue, MeansExtract};
@@ -43,6 +44,7 @@ pub(crate) fn answer_extract<const H: usize>(
 ) -> Result<Answer, TextEnd>
     requires permitted { IsTrue (is_permitted H) }
     requires valid { IsDocument H (plain_document document) }
+    requires taken { IsTaken every_source (plain_document document) }
     ensures due { GivesDue (IsDueExtract H (plain_document document.entry)) result }
     ensures meaning { OnOk result (MeansExtract H (plain_document document.entry)) }
 {
@@ -102,7 +104,7 @@ fn print_extracted<const H: usize>(
 ) -> Result<Vec<u8>, Memory>
     requires flow { IsCausalFlowOf graph.now flow.now }
     requires few { gate_count graph.now ≤ most_gates }
-    ensures { IfOk result (λ text. text.items ≡ circuit_text
+    ensures { IfOk result (λ text. text.items ≡ circuit_text H
         (extracted_circuit H graph.now (next_in flow.now.rows) (layer_in flow.now.rows))) }
 {
     let circuit = extract(alloc, graph, flow)?;

@@ -6,6 +6,7 @@ ghost use Rattle.mc_graph.specs.Flows.{IsChosenFlowOf};
 ghost use Rattle.mc_graph.specs.Refuters.{IsChosenRefuterOf};
 ghost use Rattle.mc_gflow.specs.Answers.{HasNoFlow, IsChosen};
 ghost use Rattle.mc_document.specs.Documents.{plain_document};
+ghost use Rattle.mc_document.specs.Kinds.{IsTaken, every_source};
 ghost use Rattle.mc_top.specs.Due.{GivesDue};
 ghost use Rattle.mc_top.specs.Flow.{IsDueFlow, IsFlowDue, IsFoundDue, IsRefuterDue, MeansFlow};
 
@@ -33,6 +34,7 @@ pub(crate) fn answer_flow<const H: usize>(
     document: Document<H>,
 ) -> Result<Answer, TextEnd>
     requires permitted { IsTrue (is_permitted H) }
+    requires taken { IsTaken every_source (plain_document document) }
     ensures due { GivesDue (IsDueFlow H (plain_document document.entry)) result }
     ensures meaning { OnOk result (MeansFlow H (plain_document document.entry)) }
 {

@@ -5,6 +5,7 @@ ghost use Rattle.mc_model.specs.Graph.{graph_of as pattern_graph};
 ghost use Rattle.mc_model.specs.Steps.{is_permitted};
 ghost use Rattle.mc_model.specs.Translation.{translation};
 ghost use Rattle.mc_document.specs.Documents.{plain_document};
+ghost use Rattle.mc_document.specs.Kinds.{IsTaken, every_source};
 ghost use Rattle.mc_top.specs.Due.{IsLimit};
 ghost use Rattle.mc_top.specs.GraphSource.{source_graph};
 ghost use Rattle.mc_top.specs.Source.{source_limit, translation_limit};
@@ -22,7 +23,8 @@ pub(crate) fn graph_source<const H: usize>(
     alloc: Global,
     document: Document<H>,
 ) -> Result<OpenGraph<H>, TextEnd>
-    requires { IsTrue (is_permitted H) }
+    requires permitted { IsTrue (is_permitted H) }
+    requires taken { IsTaken every_source (plain_document document) }
     ensures graph { IfOk result (λ g. g ≡ source_graph H (plain_document document.entry)) }
     ensures few { OnOk result (source_limit (plain_document document.entry) ≡ None) }
     ensures err { IfErr result (λ end. IsLimit end (source_limit (plain_document document.entry))) }
@@ -30,7 +32,9 @@ pub(crate) fn graph_source<const H: usize>(
     match document {
         Document::Circuit(circuit) => circuit_graph(alloc, &circuit),
         Document::Pattern(pattern, _) => pattern_graph(alloc, &pattern),
+        Document::Traced(pattern, _) => pattern_graph(alloc, &pattern),
         Document::Graph(graph, _) => Ok(graph),
+        _ => unreachable!(),
     }
 }
 

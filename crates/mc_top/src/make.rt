@@ -3,9 +3,10 @@
 ghost use Rattle.std.specs.Prelude.{◌≡◌, OnOk, IfOk, IsTrue};
 ghost use Rattle.mc_model.specs.Made.{flow_pattern};
 ghost use Rattle.mc_model.specs.Steps.{is_permitted};
-ghost use Rattle.mc_pattern_print.specs.Canonical.{text_with_constants};
+ghost use Rattle.mc_pattern_text.specs.Canonical.{pattern_text};
 ghost use Rattle.mc_graph.specs.Flows.{IsChosenFlowOf, layer_in, sets_in};
 ghost use Rattle.mc_document.specs.Documents.{IsDocument, plain_document};
+ghost use Rattle.mc_document.specs.Kinds.{IsTaken, every_source};
 ghost use Rattle.mc_top.specs.Due.{GivesDue};
 ghost use Rattle.mc_top.specs.Make.{IsDueMake, IsMakingDue, MeansMake};
 
@@ -21,7 +22,7 @@ use mc_make::{
     flow_patterns_keep_scale, make_pattern, zero_branch_of_flow_pattern,
 };
 use mc_model::Memory;
-use mc_pattern_print::print_with_constants;
+use mc_pattern_text::print_pattern;
 use mc_translate::translations_are_valid;
 use std::alloc::Global;
 
@@ -36,6 +37,7 @@ pub(crate) fn answer_make<const H: usize>(
 ) -> Result<Answer, TextEnd>
     requires permitted { IsTrue (is_permitted H) }
     requires valid { IsDocument H (plain_document document) }
+    requires taken { IsTaken every_source (plain_document document) }
     ensures due { GivesDue (IsDueMake H (plain_document document.entry)) result }
     ensures meaning { OnOk result (MeansMake H (plain_document document.entry)) }
 {
@@ -69,9 +71,9 @@ fn print_made<const H: usize>(
 ) -> Result<Vec<u8>, Memory>
     requires { IsChosenFlowOf graph.now flow.now }
     ensures { IfOk result (λ text. text.items
-        ≡ text_with_constants
+        ≡ pattern_text H
         (flow_pattern graph.now (sets_in flow.now.rows) (layer_in flow.now.rows))) }
 {
     let pattern = make_pattern(alloc, graph, flow)?;
-    print_with_constants(alloc, &pattern)
+    print_pattern(alloc, &pattern)
 }

@@ -8,7 +8,7 @@ ghost use Rattle.mc_top.specs.Due.{Gives, Holds};
 ghost use Rattle.mc_top.specs.Print.{IsReadBack, due_print};
 
 use crate::answer::{Answer, told};
-use mc_document::{Document, canonical_texts_are_read, print_document};
+use mc_document::{Document, canonical_texts_are_read, print_document, taken_documents_are_seen};
 use mc_lex::TextEnd;
 use std::alloc::Global;
 
@@ -28,5 +28,6 @@ pub(crate) fn answer_print<const H: usize>(
     ensures holds { IfOk result Holds }
 {
     canonical_texts_are_read::<H>();
+    taken_documents_are_seen();
     told(print_document(alloc, &document))
 }

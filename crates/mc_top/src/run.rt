@@ -4,6 +4,7 @@ ghost use Rattle.std.specs.Prelude.{◌≡◌, OnOk, IfOk, IsSomeAnd, IsTrue};
 ghost use Rattle.mc_model.specs.Graph.{zero_pattern as bare_pattern};
 ghost use Rattle.mc_model.specs.Steps.{is_permitted};
 ghost use Rattle.mc_document.specs.Documents.{plain_document};
+ghost use Rattle.mc_document.specs.Kinds.{IsTaken, every_source};
 ghost use Rattle.mc_top.specs.Due.{Gives, Holds};
 ghost use Rattle.mc_top.specs.Run.{MeansBranches, MeansRun, MeansTable, due_branches, due_run};
 ghost use Rattle.mc_top.specs.Run.{due_table};
@@ -25,7 +26,8 @@ pub(crate) fn answer_run<const H: usize>(
     alloc: Global,
     document: Document<H>,
 ) -> Result<Answer, TextEnd>
-    requires { IsTrue (is_permitted H) }
+    requires permitted { IsTrue (is_permitted H) }
+    requires taken { IsTaken every_source (plain_document document) }
     ensures due { IsSomeAnd (due_run H (plain_document document.entry)) (Gives result) }
     ensures meaning { OnOk result (MeansRun H (plain_document document.entry)) }
     ensures holds { IfOk result Holds }
@@ -33,7 +35,9 @@ pub(crate) fn answer_run<const H: usize>(
     match document {
         Document::Circuit(circuit) => answer_table(alloc, &circuit),
         Document::Pattern(pattern, _) => answer_branches(alloc, &pattern),
+        Document::Traced(pattern, _) => answer_branches(alloc, &pattern),
         Document::Graph(graph, _) => answer_graph_branches(alloc, &graph),
+        _ => unreachable!(),
     }
 }
 

@@ -42,7 +42,7 @@ pub(crate) fn answer_shift<const H: usize>(
 /// The text of a pattern's shifted form, with the change of its outcomes.
 fn print_shifted<const H: usize>(alloc: Global, source: &Pattern<H>) -> Result<Vec<u8>, Memory>
     requires { IsTrue (is_permitted H) }
-    ensures text { IfOk result (λ text. text.items ≡ shifted_text (standard_form source.now)) }
+    ensures text { IfOk result (λ text. text.items ≡ shifted_text H (standard_form source.now)) }
     ensures meaning { OnOk result
         (IsShiftedBy H source.now (shifted_form (standard_form source.now))) }
 {

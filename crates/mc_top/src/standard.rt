@@ -42,7 +42,7 @@ pub(crate) fn answer_standard<const H: usize>(
 /// The text of a pattern's standard form.
 fn print_standard<const H: usize>(alloc: Global, source: &Pattern<H>) -> Result<Vec<u8>, Memory>
     requires { IsTrue (is_permitted H) }
-    ensures text { IfOk result (λ text. text.items ≡ pattern_text (standard_form source.now)) }
+    ensures text { IfOk result (λ text. text.items ≡ pattern_text H (standard_form source.now)) }
     ensures meaning { OnOk result (IsAlikeStandardised H source.now) }
 {
     let standard = standardise(alloc, source)?;

@@ -12,19 +12,27 @@ ghost use Rattle.mc_top.specs.Commands.{may_deny, plain_task};
 ghost use Rattle.mc_top.specs.Due.{GivesDue, Holds};
 
 use crate::answer::Answer;
+use crate::beside::answer_beside;
 use crate::branch::answer_branch;
+use crate::chain::answer_chain;
 use crate::check::answer_check;
 use crate::compile::answer_compile;
 use crate::extract::answer_extract;
 use crate::flow::answer_flow;
 use crate::graph::answer_graph;
+use crate::least::answer_least;
+use crate::lower::answer_lower;
 use crate::make::answer_make;
 use crate::print::answer_print;
 use crate::run::answer_run;
 use crate::shift::answer_shift;
 use crate::standard::answer_standard;
+use crate::trace::answer_trace;
 use crate::translate::answer_translate;
-use crate::{check, compile, extract, flow, graph, make, print, run, shift, standard, translate};
+use crate::{
+    beside, chain, check, compile, extract, flow, graph, least, lower, make, print, run, shift,
+    standard, trace, translate,
+};
 use mc_document::{Placed, Takes};
 use mc_lex::TextEnd;
 use std::alloc::Global;
@@ -56,6 +64,16 @@ pub enum Task<'w> {
     Extract,
     /// The pattern that a circuit is compiled into.
     Compile,
+    /// A pattern, and a derivation of its standard form.
+    Trace,
+    /// Two patterns as one, the second behind the first.
+    Chain,
+    /// Two patterns as one, side by side.
+    Beside,
+    /// The circuit that a list of gates is lowered to.
+    Lower,
+    /// A graph, and the bound of depth that is chosen for its chosen flow, or its chosen refuter.
+    Least,
 }
 
 impl<'w> Task<'w> {
@@ -65,10 +83,15 @@ impl<'w> Task<'w> {
     {
         match self {
             Task::Translate | Task::Compile => Takes::circuits(),
-            Task::Print | Task::Run | Task::Flow | Task::Make | Task::Extract => Takes::all(),
-            Task::Standard | Task::Shift | Task::Graph => Takes::circuits_and_patterns(),
+            Task::Print => Takes::all(),
+            Task::Run | Task::Flow | Task::Make | Task::Extract | Task::Least => Takes::sources(),
+            Task::Standard | Task::Shift | Task::Graph | Task::Trace => {
+                Takes::circuits_and_patterns()
+            }
             Task::RunBranch(_) => Takes::patterns_and_graphs(),
-            Task::Check => Takes::certified_graphs(),
+            Task::Check => Takes::certified(),
+            Task::Chain | Task::Beside => Takes::two_patterns(),
+            Task::Lower => Takes::gates(),
         }
     }
 }
@@ -101,6 +124,11 @@ pub(crate) fn answer_document<const H: usize>(
         Task::Make => answer_make(alloc, read.document),
         Task::Extract => answer_extract(alloc, read.document),
         Task::Compile => answer_compile(alloc, read.document),
+        Task::Trace => answer_trace(alloc, read.document),
+        Task::Chain => answer_chain(alloc, read.document),
+        Task::Beside => answer_beside(alloc, read.document),
+        Task::Lower => answer_lower(alloc, read.document),
+        Task::Least => answer_least(alloc, read.document),
     }
 }
 
@@ -140,6 +168,21 @@ fn task_of_word<'w>(word: &[u8]) -> Option<Task<'w>>
     }
     if word == compile::WORD {
         return Some(Task::Compile);
+    }
+    if word == trace::WORD {
+        return Some(Task::Trace);
+    }
+    if word == chain::WORD {
+        return Some(Task::Chain);
+    }
+    if word == beside::WORD {
+        return Some(Task::Beside);
+    }
+    if word == lower::WORD {
+        return Some(Task::Lower);
+    }
+    if word == least::WORD {
+        return Some(Task::Least);
     }
     None
 }

@@ -1,6 +1,7 @@
 //! From the words and the source to the answer, the note and the status.
 
-ghost use Rattle.std.specs.Prelude.{◌≡◌, ◌≢◌, ◌↔◌, ◌≤◌, true, false, length, map, IfOk, IfSome, IsSomeAnd};
+ghost use Rattle.std.specs.Prelude.{◌≡◌, ◌≢◌, ◌↔◌, ◌≤◌, true, false};
+ghost use Rattle.std.specs.Prelude.{length, map, IfOk, IfSome, IsSomeAnd};
 ghost use Rattle.std.specs.Prelude.{IsTrue, OnOk};
 ghost use Rattle.std.specs.String.{string_bytes};
 ghost use Rattle.std.specs.Io.KnownBytes.{IsAtEnd};
@@ -15,7 +16,8 @@ ghost use Rattle.mc_top.specs.Requests.{MeansTo, ReadsText};
 ghost use Rattle.mc_top.specs.Sample.{IsDueSample};
 ghost use Rattle.mc_top.specs.Due.{GivesDue, Holds};
 ghost use Rattle.mc_top.specs.Serve.{Appends, IsAnswered, IsStatus, IsUnwritten, IsWhole};
-ghost use Rattle.mc_top.specs.Serve.{IsDue, IsDueIn, MakesReadsFor, Means, MeansIn, Notes, half_of};
+ghost use Rattle.mc_top.specs.Serve.{IsDue, IsDueIn, MakesReadsFor, Means, MeansIn, Notes};
+ghost use Rattle.mc_document.specs.Turns.{half_of};
 
 use crate::answer::Answer;
 use crate::note::note as status_line;
@@ -23,7 +25,7 @@ use crate::request::{Request, request_of};
 use crate::sample::print_sample;
 use crate::status::Status;
 use crate::task::{Task, answer_document};
-use mc_document::read_placed;
+use mc_document::{read_placed, turn_of};
 use mc_io::{ReadEnd, Sink, Source, read_all, write_all};
 use mc_lex::TextEnd;
 use mc_model::Memory;
@@ -53,7 +55,10 @@ fn answer_in_turn(alloc: Global, task: Task<'_>, text: &[u8]) -> Result<Answer, 
     ensures meaning { OnOk result (Means (plain_task task.entry) text.now) }
     ensures holds { may_deny (plain_task task.entry) ≡ false → IfOk result Holds }
 {
-    answer::<4>(alloc, task, text)
+    match turn_of(text) {
+        8 => answer::<8>(alloc, task, text),
+        _ => answer::<4>(alloc, task, text),
+    }
 }
 
 /// Reads the whole source and makes the whole answer, and writes it.

@@ -12,6 +12,12 @@ returns-in-Pattern-clause-meaning g c =
     (c.branches_are_well_printed.ensures c.in-Pattern.pattern
     (placed (measured_order c.in-Pattern.pattern.commands) (map is_one c.args.digits.now))))
 
+pub returns-in-Traced-clause-meaning : goal.returns-in-Traced-clause-meaning
+returns-in-Traced-clause-meaning g c =
+    rw c.in-Traced.is (on_ok c.answer_outcomes-in-Traced.result _
+    (c.branches_are_well_printed.ensures c.in-Traced.pattern
+    (placed (measured_order c.in-Traced.pattern.commands) (map is_one c.args.digits.now))))
+
 pub returns-in-Graph-clause-meaning : goal.returns-in-Graph-clause-meaning
 returns-in-Graph-clause-meaning g c =
     let p = zero_pattern c.in-Graph.graph in

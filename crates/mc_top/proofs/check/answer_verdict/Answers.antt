@@ -33,4 +33,5 @@ returns-clause-meaning g c =
           flow;
       stuck = λ set h next layer flow.
           c.stuck_sets_exclude_causal_flows.ensures made (is_member set) h next layer flow;
+      bounds = c.bounds_mean_depths.ensures.bounds made;
     }

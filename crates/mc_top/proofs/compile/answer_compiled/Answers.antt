@@ -14,8 +14,8 @@ returns-in-Ok-clause-due g c =
     let compiled = c.in-Ok.compiled in
     gives_unless (translation_limit circuit) (IsCompiledText g.row.H circuit) c.told.result
     (no_limit circuit c.in-Ok.ensures.few)
-    (gives_text (IsCompiledText g.row.H circuit) c.told.result (pattern_text compiled.pattern)
-    (c.told.ensures.due (pattern_text compiled.pattern) c.print_pattern.ensures)
+    (gives_text (IsCompiledText g.row.H circuit) c.told.result (pattern_text g.row.H compiled.pattern)
+    (c.told.ensures.due (pattern_text g.row.H compiled.pattern) c.print_pattern.ensures)
     (record {
       compiled = compiled.pattern;
       edges = compiled.edges;

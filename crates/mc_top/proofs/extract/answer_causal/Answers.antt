@@ -23,7 +23,7 @@ returns-in-Ok-Flow g c =
     let flow = c.in-Ok-Flow.flow in
     let found = rw c.in-Ok-Flow.field-0-is at c.in-Ok-Flow.ensures in
     let text =
-    circuit_text (extracted_circuit g.row.H graph (next_in flow.rows) (layer_in flow.rows)) in
+    circuit_text g.row.H (extracted_circuit g.row.H graph (next_in flow.rows) (layer_in flow.rows)) in
     gives_text (IsExtractionDue g.row.H graph) c.told.result text
     (c.told.ensures.due text c.print_extracted.ensures)
     (inl (record { flow = flow; chosen = found.chosen; text = refl }))

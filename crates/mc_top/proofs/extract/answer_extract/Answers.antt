@@ -31,7 +31,7 @@ returns-in-Ok-clause-meaning g c =
       scale = c.extracted_circuit_scale.ensures;
       table = c.extracted_circuit_has_table.ensures;
     }) g.row.H (permitted_positive g.row.H c.requires.permitted) (plain_document c.args.document)
-    c.requires.valid c.in-Ok.ensures.few)
+    c.requires.taken c.requires.valid c.in-Ok.ensures.few)
 
 pub returns-in-Err-clause-due : goal.returns-in-Err-clause-due
 returns-in-Err-clause-due g c =

@@ -1,4 +1,5 @@
-use Rattle.mc_top.proofs.Serving.{AreSeen, in_due, of_due}
+use Rattle.mc_top.proofs.ChosenDue.{ChosenLaws, FormLaws, in_due, of_due}
+use Rattle.mc_top.proofs.Serving.{AreSeen}
 use Rattle.mc_top.proofs.laws.something_is_due.Goals as goal
 
 pub returns-clause-for_text : goal.returns-clause-for_text
@@ -7,8 +8,27 @@ returns-clause-for_text c =
     record {
       circuit = c.taken_documents_are_seen.ensures.circuit;
       other = c.taken_documents_are_seen.ensures.other;
+      two = c.taken_documents_are_seen.ensures.two;
+      judged = c.every_trace_is_judged.ensures;
     } in
-    of_due seen c.clean_texts_spell_documents.ensures
+    let forms : FormLaws =
+    record {
+      chosen_flow = c.chosen_flows_are_flows.ensures;
+      translation_valid = c.translations_are_valid.ensures;
+      graph_kept = c.graphs_keep_zero_branch.ensures;
+      made_valid = c.flow_patterns_are_valid.ensures;
+      standard_valid = c.standard_is_standard.ensures;
+      one_form = c.has_one_shifted_form.ensures.one;
+    } in
+    let laws : ChosenLaws =
+    record {
+      flows = c.flows_or_refuters_exist.ensures;
+      causal = c.causal_flows_or_stuck_sets_exist.ensures;
+      translation_flow = c.translations_have_flows.ensures;
+      forms = forms;
+    } in
+    of_due laws seen c.clean_texts_spell_documents.ensures.taken
+    c.clean_texts_spell_documents.ensures.valid
 
 pub returns-clause-in_step : goal.returns-clause-in_step
 returns-clause-in_step c =
@@ -16,5 +36,24 @@ returns-clause-in_step c =
     record {
       circuit = c.taken_documents_are_seen.ensures.circuit;
       other = c.taken_documents_are_seen.ensures.other;
+      two = c.taken_documents_are_seen.ensures.two;
+      judged = c.every_trace_is_judged.ensures;
     } in
-    in_due seen c.clean_texts_spell_documents.ensures
+    let forms : FormLaws =
+    record {
+      chosen_flow = c.chosen_flows_are_flows.ensures;
+      translation_valid = c.translations_are_valid.ensures;
+      graph_kept = c.graphs_keep_zero_branch.ensures;
+      made_valid = c.flow_patterns_are_valid.ensures;
+      standard_valid = c.standard_is_standard.ensures;
+      one_form = c.has_one_shifted_form.ensures.one;
+    } in
+    let laws : ChosenLaws =
+    record {
+      flows = c.flows_or_refuters_exist.ensures;
+      causal = c.causal_flows_or_stuck_sets_exist.ensures;
+      translation_flow = c.translations_have_flows.ensures;
+      forms = forms;
+    } in
+    in_due laws seen c.clean_texts_spell_documents.ensures.taken
+    c.clean_texts_spell_documents.ensures.valid

@@ -1,6 +1,6 @@
 use Rattle.std.proofs.Common.{inl, inr, refl}
 use Rattle.mc_model.specs.Made.{flow_pattern}
-use Rattle.mc_pattern_print.specs.Canonical.{text_with_constants}
+use Rattle.mc_pattern_text.specs.Canonical.{pattern_text}
 use Rattle.mc_graph.specs.Flows.{layer_in, sets_in}
 use Rattle.mc_gflow.specs.Answers.{IsChosen}
 use Rattle.mc_top.specs.Flow.{IsRefuterDue}
@@ -13,7 +13,8 @@ pub returns-in-Ok-Flow : goal.returns-in-Ok-Flow
 returns-in-Ok-Flow g c =
     let graph = c.args.graph.now in
     let flow = c.in-Ok-Flow.flow in
-    let text = text_with_constants (flow_pattern graph (sets_in flow.rows) (layer_in flow.rows)) in
+    let made = flow_pattern graph (sets_in flow.rows) (layer_in flow.rows) in
+    let text = pattern_text g.row.H made in
     gives_text (IsMakingDue g.row.H graph) c.told.result text
     (c.told.ensures.due text c.print_made.ensures)
     (inl (record {

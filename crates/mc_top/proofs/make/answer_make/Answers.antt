@@ -31,7 +31,7 @@ returns-in-Ok-clause-meaning g c =
       alike = c.flow_patterns_are_deterministic.ensures;
       zero = c.zero_branch_of_flow_pattern.ensures;
     }) g.row.H (permitted_positive g.row.H c.requires.permitted) (plain_document c.args.document)
-    c.requires.valid c.in-Ok.ensures.few)
+    c.requires.taken c.requires.valid c.in-Ok.ensures.few)
 
 pub returns-in-Err-clause-due : goal.returns-in-Err-clause-due
 returns-in-Err-clause-due g c =

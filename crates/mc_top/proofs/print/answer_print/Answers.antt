@@ -9,5 +9,6 @@ returns-clause-meaning g c =
     on_ok c.told.result _ (record {
       clean = c.canonical_texts_are_read.ensures.clean every_kind d c.requires.valid
           c.requires.taken;
-      same = c.canonical_texts_are_read.ensures.same d c.requires.valid;
+      same = c.canonical_texts_are_read.ensures.same d c.requires.valid
+          (c.taken_documents_are_seen.ensures.one d c.requires.taken);
     })

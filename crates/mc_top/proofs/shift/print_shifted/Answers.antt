@@ -4,7 +4,7 @@ use Rattle.mc_model.specs.Valid.{IsValidPattern}
 use Rattle.mc_model.specs.Shift.{ChangeRow}
 use Rattle.mc_model.proofs.StepLemmas.{permitted_positive}
 use Rattle.mc_pattern_text.specs.Canonical.{pattern_text}
-use Rattle.mc_pattern_text.specs.ChangeCanonical.{change_text}
+use Rattle.mc_change_text.specs.Canonical.{change_text}
 use Rattle.mc_shift.specs.Shifted.{shifted_form}
 use Rattle.mc_top.specs.Shift.{shifted_text}
 use Rattle.mc_top.proofs.ChangesFit.{change_fits}
@@ -28,16 +28,17 @@ returns-clause-text g c =
     let form : c.in_ok-pattern.pattern ≡ shifted_form standard =
     c.in_ok-pattern.ensures
     ∙ sym (is_shifted_form standard c.in_ok-shifted.shifted valid c.in_ok-shifted.ensures.only) in
-    subst (λ (p : Pattern). IfOk written (λ text. text.items ≡ shifted_text p))
+    subst (λ (p : Pattern). IfOk written (λ text. text.items ≡ shifted_text g.row.H p))
     c.in_ok-standard.ensures.form
     (subst
     (λ (rows : List ChangeRow). IfOk written (λ text.
-    text.items ≡ pattern_text (shifted_form standard) ++ change_text (shifted_form standard) rows))
+    text.items
+    ≡ pattern_text g.row.H (shifted_form standard) ++ change_text (shifted_form standard) rows))
     c.in_ok-shifted.ensures.change
     (subst
     (λ (q : Pattern). IfOk written (λ text.
-    text.items ≡ pattern_text q ++ change_text q c.in_ok-shifted.change))
-    form c.print_with_change.ensures))
+    text.items ≡ pattern_text g.row.H q ++ change_text q c.in_ok-shifted.change))
+    form c.print_with_change.ensures.text))
 
 pub returns-clause-meaning : goal.returns-clause-meaning
 returns-clause-meaning g c =

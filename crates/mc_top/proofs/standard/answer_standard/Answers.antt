@@ -8,7 +8,7 @@ use Rattle.mc_top.proofs.standard.answer_standard.Goals as goal
 
 pub returns-in-Ok-clause-due : goal.returns-in-Ok-clause-due
 returns-in-Ok-clause-due g c =
-    from_source g.row.H (plain_document c.args.document) (λ p. pattern_text (standard_form p))
+    from_source g.row.H (plain_document c.args.document) (λ p. pattern_text g.row.H (standard_form p))
     c.in-Ok.source c.told.result c.in-Ok.ensures.pattern c.in-Ok.ensures.few
     (c.told.ensures.due _ c.print_standard.ensures.text)
 
@@ -22,5 +22,5 @@ returns-in-Ok-clause-meaning g c =
 
 pub returns-in-Err-clause-due : goal.returns-in-Err-clause-due
 returns-in-Err-clause-due g c =
-    from_limit g.row.H (plain_document c.args.document) (λ p. pattern_text (standard_form p))
+    from_limit g.row.H (plain_document c.args.document) (λ p. pattern_text g.row.H (standard_form p))
     c.in-Err.end c.source.ensures.some c.in-Err.ensures.err

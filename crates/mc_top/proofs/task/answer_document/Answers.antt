@@ -32,6 +32,17 @@ pub returns-in-Graph-clause-due : goal.returns-in-Graph-clause-due
 returns-in-Graph-clause-due g c =
     rw c.in-Graph.is (gives_some _ c.answer_graph.result c.answer_graph.ensures.due)
 
+pub returns-in-Lower-clause-due : goal.returns-in-Lower-clause-due
+returns-in-Lower-clause-due g c =
+    rw c.in-Lower.is (gives_some _ c.answer_lower.result c.answer_lower.ensures.due)
+
 pub returns-in-Check-clause-due : goal.returns-in-Check-clause-due
-returns-in-Check-clause-due g c =
-    rw c.in-Check.is (gives_some _ c.answer_check.result c.answer_check.ensures.due)
+returns-in-Check-clause-due g c = rw c.in-Check.is c.answer_check.ensures.due
+
+pub returns-in-Chain-clause-due : goal.returns-in-Chain-clause-due
+returns-in-Chain-clause-due g c =
+    rw c.in-Chain.is (gives_some _ c.answer_chain.result c.answer_chain.ensures.due)
+
+pub returns-in-Beside-clause-due : goal.returns-in-Beside-clause-due
+returns-in-Beside-clause-due g c =
+    rw c.in-Beside.is (gives_some _ c.answer_beside.result c.answer_beside.ensures.due)

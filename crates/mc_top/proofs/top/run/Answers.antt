@@ -1,10 +1,12 @@
-use Rattle.std.proofs.Common.{◌≡◌, ◌<◌, ◌≤◌, List, length, Err, Ok, refl, inl, inr, sym, subst, ap, ◌∙◌, ℕ}
+use Rattle.std.proofs.Common.{◌≡◌, ◌<◌, ◌≤◌, List, length, Err, Ok, refl, inl, inr}
+use Rattle.std.proofs.Common.{sym, subst, ap, ◌∙◌, ℕ}
 use Rattle.std.proofs.Common.{arith}
 use Rattle.mc_lex.specs.declared.end.TextEnd.TheVariants as end
+use Rattle.mc_document.specs.Turns.{half_of}
 use Rattle.mc_top.specs.declared.status.Status.TheVariants as status
 use Rattle.mc_top.specs.Commands.{may_deny, plain_task}
 use Rattle.mc_top.specs.Due.{GivesDue, refusal}
-use Rattle.mc_top.specs.Serve.{Appends, IsDue, IsDueIn, IsStatus, Means, half_of}
+use Rattle.mc_top.specs.Serve.{Appends, IsDue, IsDueIn, IsStatus, Means}
 use Rattle.mc_top.proofs.Serving.{due_past, due_within, may_be_no, of_any, of_more, of_told}
 use Rattle.mc_top.proofs.Serving.{part_appends, part_status, refused_appends, refused_reads}
 use Rattle.mc_top.proofs.Serving.{refusal_is_not_no, refused_status, whole_appends, whole_status}
