@@ -14,7 +14,11 @@ import sys
 
 import reference_graphs as graphs
 
+# the steps of half a turn; a header with `turn 16` sets it to 8
 HALF = 4
+# the member of a signal that stands for an outcome that is always 1
+CONSTANT = -1
+PHASES = {"z": 4, "s": 2, "sdg": 6, "t": 1, "tdg": 7}
 
 
 # ---- texts
@@ -33,10 +37,43 @@ def fresh(names):
 
 def read(text):
     """A document as a dictionary; qubits, wires and vertices are numbers."""
+    global HALF
     lines = lines_of(text)
     kind, body = lines[0][0], lines[1:]
+    if lines[0][2:] == ["turn", "16"]:
+        HALF = 8
     if kind == "graph":
         return graphs.read_graph(body)
+    if kind == "gates":
+        return read_gates(body)
+    return read_items(kind, body)
+
+
+def read_gates(lines):
+    names, items, inputs, out = [], [], 0, []
+    for word, *rest in lines:
+        if word in ("in", "plus"):
+            names += rest
+            inputs += len(rest) if word == "in" else 0
+        elif word == "out":
+            out = [names.index(w) for w in rest]
+        elif word != "end":
+            items.append((word,) + tuple(map(names.index, rest)))
+    return {"kind": "gates", "names": names, "inputs": inputs, "items": items, "out": out}
+
+
+def read_two(text):
+    """Two patterns, one behind the other."""
+    lines = text.splitlines()
+    end = [line.split("#")[0].split() for line in lines].index(["end"]) + 1
+    return read("\n".join(lines[:end])), read("\n".join(lines[end:]))
+
+
+def member(number, word):
+    return CONSTANT if word == "!" else number(word)
+
+
+def read_items(kind, body):
     names, items, inputs, out = [], [], 0, []
     number = names.index
     for word, *rest in body:
@@ -56,10 +93,10 @@ def read(text):
                 if w in ("s:", "t:"):
                     into = s if w == "s:" else t
                 else:
-                    into.add(number(w))
+                    into.add(member(number, w))
             items.append(("m", number(rest[0]), int(rest[1]) % (2 * HALF), s, t))
         elif word in ("x", "z"):
-            items.append((word, number(rest[0]), {number(w) for w in rest[1:]}))
+            items.append((word, number(rest[0]), {member(number, w) for w in rest[1:]}))
         elif word == "out":
             out = [number(w) for w in rest]
         elif word == "end":
@@ -68,12 +105,25 @@ def read(text):
 
 
 def members(names, signal):
-    return [names[q] for q in sorted(signal)]
+    return [names[q] for q in sorted(signal - {CONSTANT})] + ["!"] * (CONSTANT in signal)
+
+
+def has_constant(signals):
+    return any(CONSTANT in signal for signal in signals)
+
+
+def header(kind, version):
+    return [kind, str(version)] + (["turn", "16"] if HALF == 8 else [])
+
+
+def signals_of(item):
+    return item[3:] if item[0] == "m" else item[2:] if item[0] in ("x", "z") else ()
 
 
 def print_pattern(p):
     names = p["names"]
-    lines = [["pattern", "1"], ["in"] + names[: p["inputs"]]]
+    version = 2 if any(has_constant(signals_of(item)) for item in p["items"]) else 1
+    lines = [header("pattern", version), ["in"] + names[: p["inputs"]]]
     for item in p["items"]:
         if item[0] == "n":
             lines.append(["n", names[item[1]]])
@@ -93,7 +143,7 @@ def print_pattern(p):
 
 def print_circuit(c):
     names = c["names"]
-    lines = [["circuit", "1"], ["in"] + names[: c["inputs"]]]
+    lines = [header("circuit", 1), ["in"] + names[: c["inputs"]]]
     if len(names) > c["inputs"]:
         lines.append(["plus"] + names[c["inputs"]:])
     for item in c["items"]:
@@ -163,7 +213,7 @@ def standard(p):
 
 def shift(p):
     """`old[q]` is the old outcome of `q` as a sum of new ones."""
-    old, change, out = {}, [], []
+    old, change, out = {CONSTANT: {CONSTANT}}, [], []
 
     def in_new(signal):
         total = set()
@@ -185,13 +235,19 @@ def shift(p):
 
 
 def print_change(p, change):
-    lines = [["change", "1"]] + [["o", p["names"][q]] + members(p["names"], t) for q, t in change] + [["end"]]
+    version = "2" if has_constant(t for _, t in change) else "1"
+    lines = [["change", version]] + [["o", p["names"][q]] + members(p["names"], t) for q, t in change] + [["end"]]
     return "".join(" ".join(line) + "\n" for line in lines)
 
 
-# ---- amplitudes: four whole coordinates of 1, w, w^2, w^3, with w^4 = -1
+# ---- amplitudes: whole coordinates of 1, w, w^2, .., by HALF of them, with w^HALF = -1
 
-ZERO, ONE = (0, 0, 0, 0), (1, 0, 0, 0)
+def zero():
+    return (0,) * HALF
+
+
+def one():
+    return (1,) + (0,) * (HALF - 1)
 
 
 def plus(a, b):
@@ -200,16 +256,19 @@ def plus(a, b):
 
 def turned(a, k):
     for _ in range(k % (2 * HALF)):
-        a = (-a[3], a[0], a[1], a[2])
+        a = (-a[-1],) + a[:-1]
     return a
 
 
 def reduced(a, halves):
-    """The same value over the least power of the root of two, which is w - w^3."""
-    while halves > 0 and a != ZERO and (a[0] - a[2]) % 2 == 0 and (a[1] - a[3]) % 2 == 0:
-        a = ((a[1] - a[3]) // 2, (a[0] + a[2]) // 2, (a[1] + a[3]) // 2, (a[2] - a[0]) // 2)
-        halves -= 1
-    return a, 0 if a == ZERO else halves
+    """The same value over the least power of the root of two, which is an eighth of a turn less three of them."""
+    eighth = HALF // 4
+    while halves > 0 and a != zero():
+        product = plus(turned(a, eighth), turned(a, 3 * eighth + HALF))
+        if any(x % 2 for x in product):
+            break
+        a, halves = tuple(x // 2 for x in product), halves - 1
+    return a, 0 if a == zero() else halves
 
 
 def bits(count):
@@ -220,11 +279,12 @@ def carried_out(document, outcomes, inputs):
     """The amplitudes of all settings of the qubits that are there, by one input, as a dictionary."""
     count = len(document["names"])
     there = list(range(document["inputs"]))
-    state = {inputs: ONE}
+    state = {inputs: one()}
     if document["kind"] == "circuit":
         there = list(range(count))
-        state = {inputs + rest: ONE for rest in bits(count - document["inputs"])}
+        state = {inputs + rest: one() for rest in bits(count - document["inputs"])}
     scale = count - document["inputs"] if document["kind"] == "circuit" else 0
+    outcomes = {**outcomes, CONSTANT: 1}
     for item in document["items"]:
         word, new = item[0], {}
         if word == "n":
@@ -247,7 +307,7 @@ def carried_out(document, outcomes, inputs):
             for x, a in state.items():
                 for b in (0, 1):
                     y = x[:at] + (b,) + x[at + 1:]
-                    new[y] = plus(new.get(y, ZERO), turned(a, x[at] * (item[2] + HALF * b)))
+                    new[y] = plus(new.get(y, zero()), turned(a, x[at] * (item[2] + HALF * b)))
             state = new
         else:
             scale += 1
@@ -256,7 +316,7 @@ def carried_out(document, outcomes, inputs):
             turn = -((-angle if s else angle) + HALF * t) + HALF * outcomes[q]
             for x, a in state.items():
                 y = x[:at] + x[at + 1:]
-                new[y] = plus(new.get(y, ZERO), turned(a, x[at] * turn))
+                new[y] = plus(new.get(y, zero()), turned(a, x[at] * turn))
             state = new
             there.pop(at)
     order = [there.index(q) for q in document["out"]]
@@ -271,7 +331,7 @@ def table_of(document, outcomes):
     rows, scale = [], 0
     for b in bits(document["inputs"]):
         state, scale = carried_out(document, outcomes, b)
-        rows += [(y, b, state.get(y, ZERO)) for y in bits(len(document["out"]))]
+        rows += [(y, b, state.get(y, zero())) for y in bits(len(document["out"]))]
     return rows, scale
 
 
@@ -279,8 +339,12 @@ def lines_of_table(rows, scale):
     out = []
     for y, b, a in rows:
         value, halves = reduced(a, scale)
-        out.append("amp %s %s %d %d %d %d / %d" % ((word_of(y), word_of(b)) + value + (halves,)))
+        out.append(amplitude(y, b, value, halves))
     return out
+
+
+def amplitude(y, b, value, halves):
+    return " ".join(["amp", word_of(y), word_of(b)] + [str(x) for x in value] + ["/", str(halves)])
 
 
 def print_run(document):
@@ -300,11 +364,12 @@ def print_run(document):
 
 # ---- gates that are known: the entry at output y and input b as a phase over a power of the root of two, or none
 
+def weight(bits):
+    return sum(bit << i for bit, i in zip(bits, (2, 1, 0)))
+
+
 def fourier(y, b):
-    if y[3]:
-        return None
-    weight = lambda bits, order: sum(bit << i for bit, i in zip(bits, order))
-    return weight(y, (2, 1, 0)) * weight(b, (2, 1, 0)) % 8, 3
+    return None if y[3] else (weight(y) * weight(b) % 8, 3)
 
 
 KNOWN = {
@@ -313,17 +378,20 @@ KNOWN = {
     "ghz": (3, 0, lambda y, b: (0, 1) if len(set(y)) == 1 else None),
     "toffoli": (3, 3, lambda y, b: (0, 0) if y == (b[0], b[1], b[2] ^ (b[0] & b[1])) else None),
     "fourier": (4, 3, fourier),
+    "fourier_sixteenths": (3, 3, lambda y, b: (2 * weight(y) * weight(b) % 16, 3)),
 }
 
 
 def print_known(name):
+    global HALF
+    HALF = 8 if name == "fourier_sixteenths" else 4
     outputs, inputs, entry = KNOWN[name]
     lines = ["table 1"]
     for b in bits(inputs):
         for y in bits(outputs):
             known = entry(y, b)
-            value, halves = (turned(ONE, known[0]), known[1]) if known else (ZERO, 0)
-            lines.append("amp %s %s %d %d %d %d / %d" % ((word_of(y), word_of(b)) + value + (halves,)))
+            value, halves = (turned(one(), known[0]), known[1]) if known else (zero(), 0)
+            lines.append(amplitude(y, b, value, halves))
     return "\n".join(lines + ["end", ""])
 
 
@@ -337,8 +405,111 @@ def print_graph(graph):
     return text_of(graphs.graph_lines(graph, HALF))
 
 
+def print_gates(g):
+    names = g["names"]
+    lines = [["gates", "1"], ["in"] + names[: g["inputs"]]]
+    lines += [["plus"] + names[g["inputs"]:]] if len(names) > g["inputs"] else []
+    lines += [[item[0]] + [names[q] for q in item[1:]] for item in g["items"]]
+    return text_of(lines + [["out"] + [names[q] for q in g["out"]], ["end"]])
+
+
 def print_document(document):
-    return {"circuit": print_circuit, "pattern": print_pattern, "graph": print_graph}[document["kind"]](document)
+    printers = {"circuit": print_circuit, "pattern": print_pattern, "graph": print_graph, "gates": print_gates}
+    return printers[document["kind"]](document)
+
+
+# ---- two patterns, and lists of gates
+
+def placed(item, to):
+    """A command on other qubits."""
+    word, *rest = item
+    if word == "m":
+        return ("m", to[rest[0]], rest[1]) + tuple({to[q] for q in signal} for signal in rest[2:])
+    if word in ("x", "z"):
+        return (word, to[rest[0]], {to[q] for q in rest[1]})
+    return (word,) + tuple(to[q] for q in rest)
+
+
+def composed(first, second, shares):
+    """The second behind the first, where the outputs of the first may be the inputs of the second."""
+    here, there, k = len(first["names"]), len(second["names"]), second["inputs"]
+    new = list(range(k)) if not shares else []
+    # the inputs of the first, those of the second, the others of the first, the others of the second
+    old = list(range(here))
+    order = [("one", q) for q in old[: first["inputs"]]] + [("two", q) for q in new]
+    order += [("one", q) for q in old[first["inputs"]:]] + [("two", q) for q in range(k, there)]
+    at = {q: i for i, q in enumerate(order)}
+    one = {CONSTANT: CONSTANT, **{q: at["one", q] for q in old}}
+    two = {CONSTANT: CONSTANT, **{q: at["two", q] for q in range(there) if ("two", q) in at}}
+    two.update({q: one[first["out"][q]] for q in range(k)} if shares else {})
+    taken, names = list(first["names"]), [None] * len(order)
+    for q in old:
+        names[one[q]] = first["names"][q]
+    for q in range(k if shares else 0, there):
+        name = second["names"][q]
+        names[two[q]] = name if name not in taken else fresh(taken)
+        taken.append(names[two[q]])
+    items = [placed(item, one) for item in first["items"]] + [placed(item, two) for item in second["items"]]
+    out = [two[q] for q in second["out"]]
+    out = out if shares else [one[q] for q in first["out"]] + out
+    inputs = first["inputs"] + (0 if shares else k)
+    return {"kind": "pattern", "names": names, "inputs": inputs, "items": items, "out": out}
+
+
+def print_product(first, second):
+    """The table of the branch of the chain whose outcomes are all 0: the product of the tables of the two."""
+    (one, scale), (two, more) = table_of(first, zeros(first)), table_of(second, zeros(second))
+    left, right = {(y, b): a for y, b, a in one}, {(y, b): a for y, b, a in two}
+    rows = []
+    for b in bits(first["inputs"]):
+        for y in bits(len(second["out"])):
+            total = zero()
+            for c in bits(second["inputs"]):
+                total = plus(total, times(right[y, c], left[c, b]))
+            rows.append((y, b, total))
+    name = word_of([0] * (len(zeros(first)) + len(zeros(second))))
+    return "\n".join(["table 1", "branch " + name] + lines_of_table(rows, scale + more) + ["end", ""])
+
+
+def zeros(pattern):
+    return {item[1]: 0 for item in pattern["items"] if item[0] == "m"}
+
+
+def times(a, b):
+    total = zero()
+    for k, x in enumerate(a):
+        total = plus(total, tuple(x * y for y in turned(b, k)))
+    return total
+
+
+def lowered(g):
+    at, items = list(range(len(g["names"]))), []
+
+    def flip(p, q):
+        items.extend([("j", at[q], 0), ("cz", at[p], at[q]), ("j", at[q], 0)])
+
+    def toffoli(a, b, c):
+        for p, angle in ((b, 7), (a, 1), (b, 7), (a, 1)):
+            items.extend([("cz", p, c), ("j", c, 0), ("j", c, angle)])
+        items.extend([("j", b, 1), ("cz", a, b), ("j", b, 0), ("j", b, 7), ("cz", a, b), ("j", b, 0)])
+        items.extend([("j", a, 1), ("j", a, 0)])
+
+    for word, *qs in g["items"]:
+        if word == "h":
+            items.append(("j", at[qs[0]], 0))
+        elif word == "x":
+            items.extend([("j", at[qs[0]], 0), ("j", at[qs[0]], 4)])
+        elif word in PHASES:
+            items.extend([("j", at[qs[0]], PHASES[word]), ("j", at[qs[0]], 0)])
+        elif word == "cx":
+            flip(*qs)
+        elif word == "cz":
+            items.append(("cz", at[qs[0]], at[qs[1]]))
+        elif word == "swap":
+            at[qs[0]], at[qs[1]] = at[qs[1]], at[qs[0]]
+        else:
+            toffoli(*(at[q] for q in qs))
+    return {**g, "kind": "circuit", "items": items, "out": [at[q] for q in g["out"]]}
 
 
 def print_shift(source):
@@ -366,6 +537,10 @@ def print_compiled(graph):
     return with_flow(graph, lambda flow: print_pattern(shift(standard(graphs.flow_pattern(graph, flow)))[0]))
 
 
+def print_least(graph):
+    return with_flow(graph, lambda flow: print_graph(graph) + text_of(graphs.bound_lines(graph, flow)))
+
+
 def print_extracted(graph):
     flow, stuck = graphs.causal_flow(graph)
     if stuck:
@@ -375,7 +550,7 @@ def print_extracted(graph):
 
 OF_PATTERNS = {"translate": print_pattern, "standard": lambda p: print_pattern(standard(p)), "shift": print_shift}
 OF_GRAPHS = {"graph": print_graph, "flow": print_flow, "make": print_made, "compile": print_compiled,
-             "extract": print_extracted}
+             "extract": print_extracted, "least": print_least}
 
 
 def answer(command, document):
@@ -393,6 +568,13 @@ def answer(command, document):
 def main():
     if sys.argv[1] == "known":
         sys.stdout.write(print_known(sys.argv[2]))
+    elif sys.argv[1] in ("chain", "beside"):
+        first, second = read_two(sys.stdin.read())
+        sys.stdout.write(print_pattern(composed(first, second, sys.argv[1] == "chain")))
+    elif sys.argv[1] == "product":
+        sys.stdout.write(print_product(*read_two(sys.stdin.read())))
+    elif sys.argv[1] == "lower":
+        sys.stdout.write(print_circuit(lowered(read(sys.stdin.read()))))
     else:
         sys.stdout.write(answer(sys.argv[1], read(sys.stdin.read())))
 

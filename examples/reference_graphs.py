@@ -5,6 +5,9 @@ it once for each candidate, from the last one down, whether there is one without
 """
 from itertools import combinations
 
+# the member of a signal that stands for an outcome that is always 1
+CONSTANT = -1
+
 
 # ---- texts
 
@@ -37,7 +40,8 @@ def rising_edges(graph):
 
 def graph_lines(graph, half):
     names = graph["names"]
-    lines = [["graph", "2" if graph["fixed"] else "1"], ["in"] + names[:graph["inputs"]]]
+    turn = ["turn", "16"] if half == 8 else []
+    lines = [["graph", "2" if graph["fixed"] else "1"] + turn, ["in"] + names[:graph["inputs"]]]
     lines += [["n", name] for name in names[graph["inputs"]:]]
     lines += [["e", names[a], names[b]] for a, b in rising_edges(graph)]
     lines += [["m", names[v], str(graph["angles"][v] % (2 * half))] for v in sorted(graph["angles"])]
@@ -62,24 +66,44 @@ def stuck_lines(names, stuck):
     return [["nocausal", "1"], ["b"] + [names[v] for v in sorted(stuck)], ["end"]]
 
 
+def bound_lines(graph, flow):
+    names = graph["names"]
+    lines = [["least", "1"], ["depth", str(max((layer for layer, _, _ in flow), default=0))]]
+    lines += [["l", str(layer), names[v]] for layer, v, _ in sorted(flow)]
+    return lines + [row(names, ["y", str(k), names[u]], y) for k, u, y in bound_of(graph, flow)] + [["end"]]
+
+
 # ---- graphs
 
 def graph_of(pattern, half):
-    """Of a pattern without constants: what is entangled an odd number of times, and the base angles."""
-    edges, angles = set(), {}
+    """What is entangled an odd number of times, and the angles and corrections at outcomes that are all 0."""
+    count = len(pattern["names"])
+    edges, angles, x, z = set(), {}, [0] * count, [0] * count
     for item in pattern["items"]:
         if item[0] == "e":
-            edges ^= {frozenset(item[1:3])}
+            a, b = item[1:3]
+            edges ^= {frozenset((a, b))}
+            z[a], z[b] = z[a] ^ x[b], z[b] ^ x[a]
+        elif item[0] in ("x", "z"):
+            bits = x if item[0] == "x" else z
+            bits[item[1]] ^= CONSTANT in item[2]
         elif item[0] == "m":
-            angles[item[1]] = item[2] % (2 * half)
-    return {**pattern, "kind": "graph", "edges": edges, "angles": angles, "fixed": []}
+            _, q, angle, s, t = item
+            sign, turn = x[q] ^ (CONSTANT in s), z[q] ^ (CONSTANT in t)
+            angles[q] = ((-angle if sign else angle) + half * turn) % (2 * half)
+    fixed = [(v, word) for v in pattern["out"] for word, bits in (("x", x), ("z", z)) if bits[v]]
+    return {**pattern, "kind": "graph", "edges": edges, "angles": angles, "fixed": fixed}
+
+
+def fixed_items(graph):
+    return [(word, v, {CONSTANT}) for v, word in sorted(graph["fixed"])]
 
 
 def zero_pattern(graph):
     items = [("n", v) for v in range(graph["inputs"], len(graph["names"]))]
     items += [("e", a, b) for a, b in rising_edges(graph)]
     items += [("m", v, graph["angles"][v], set(), set()) for v in sorted(graph["angles"])]
-    return {**graph, "kind": "pattern", "items": items}
+    return {**graph, "kind": "pattern", "items": items + fixed_items(graph)}
 
 
 def neighbours(graph):
@@ -156,6 +180,19 @@ def refuter_of(graph, rest):
     return rows
 
 
+def bound_of(graph, flow):
+    """For each layer but the last, and each vertex above it, the least even set of vertices from there on that holds it."""
+    near, layer = neighbours(graph), {v: n for n, v, _ in flow}
+    rows = []
+    for k in range(1, max(layer.values(), default=0)):
+        inside = [v for v in sorted(layer) if layer[v] >= k]
+        asked = {v for v in near if v >= graph["inputs"] and layer.get(v, 0) < k}
+        for u in sorted(v for v in layer if layer[v] > k):
+            rest = least([v for v in inside if v != u], lambda v: near[v] & asked, near[u] & asked)
+            rows.append((k, u, rest | {u}))
+    return rows
+
+
 def causal_flow(graph):
     near, rest, depth = neighbours(graph), set(graph["angles"]), 0
     rows = []
@@ -176,12 +213,12 @@ def causal_flow(graph):
 def flow_pattern(graph, flow):
     near = neighbours(graph)
     pattern = zero_pattern(graph)
-    items = [item for item in pattern["items"] if item[0] != "m"]
+    items = [item for item in pattern["items"] if item[0] in ("n", "e")]
     for _, v, members in sorted(flow, key=lambda r: (-r[0], r[1])):
         items.append(("m", v, graph["angles"][v], set(), set()))
         items += [("x", w, {v}) for w in sorted(members)]
         items += [("z", w, {v}) for w in sorted(odd(near, members) - {v})]
-    return {**pattern, "items": items}
+    return {**pattern, "items": items + fixed_items(graph)}
 
 
 def extracted(graph, flow, half):
