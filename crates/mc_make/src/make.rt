@@ -19,10 +19,10 @@ ghost use Rattle.mc_graph.specs.Flows.{IsFlowOf, set_in, sets_in, layer_in};
 use crate::laws::{
     flow_patterns_are_deterministic, flow_patterns_keep_scale, zero_branch_of_flow_pattern,
 };
-use crate::odd::odd_neighbours;
 use mc_bits::BitRow;
 use mc_graph::{GFlow, OpenGraph, QSet, order_of, pattern_of, push_measurement, state_of};
 use mc_model::Memory;
+use mc_odd::odd_neighbours;
 use mc_pattern::{Command, Pattern, Signal};
 use std::alloc::Global;
 

@@ -6,8 +6,8 @@ use Rattle.mc_model.specs.Numbers.{is_member}
 use Rattle.mc_model.specs.Graph.{size, joins}
 use Rattle.mc_bits.specs.Rows.{bit_of}
 use Rattle.mc_bits.proofs.RowsByBits.{no_bits}
-use Rattle.mc_make.proofs.FlippedBits.{flipped_more}
-use Rattle.mc_make.proofs.odd.odd_neighbours.Goals as goal
+use Rattle.mc_odd.proofs.FlippedBits.{flipped_more}
+use Rattle.mc_odd.proofs.odd.odd_neighbours.Goals as goal
 
 pub vertices-init : goal.vertices-init
 unfolding odd

@@ -34,8 +34,9 @@ fn flip_neighbours_if<const H: usize>(told: bool, g: &OpenGraph<H>, w: u16, bits
     }
 }
 
-/// Which vertices have an odd number of neighbours in the set.
-pub(crate) fn odd_neighbours<const H: usize>(g: &OpenGraph<H>, set: &QSet) -> BitRow
+/// A bit for each vertex: whether it has an odd number of neighbours in the set, which is the odd neighbourhood of the set
+/// (Browne, Kashefi, Mhalla and Perdrix 2007). It takes no memory.
+pub fn odd_neighbours<const H: usize>(g: &OpenGraph<H>, set: &QSet) -> BitRow
     ensures bits { (v : ℕ) → v < size g.now →
         bit_of result v ≡ odd_neighbourhood g.now (is_member set.now) v }
     ensures length { length result ≡ size g.now }

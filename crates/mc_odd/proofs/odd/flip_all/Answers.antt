@@ -2,8 +2,8 @@ use Rattle.std.proofs.Common.{◌∙◌}
 use Rattle.mc_model.specs.Bits.{◌⊻◌, parity}
 use Rattle.std.specs.Prelude.{nat_eq}
 use Rattle.mc_bits.specs.Rows.{bit_of}
-use Rattle.mc_make.proofs.FlippedBits.{flip_more, flips_end}
-use Rattle.mc_make.proofs.odd.flip_all.Goals as goal
+use Rattle.mc_odd.proofs.FlippedBits.{flip_more, flips_end}
+use Rattle.mc_odd.proofs.odd.flip_all.Goals as goal
 
 pub listed-preserved : goal.listed-preserved
 listed-preserved c = record {

@@ -3,7 +3,7 @@ use Rattle.mc_model.specs.Bits.{odd}
 use Rattle.mc_model.specs.Numbers.{is_member}
 use Rattle.mc_model.specs.Graph.{size, joins}
 use Rattle.mc_bits.specs.Rows.{bit_of}
-use Rattle.mc_make.proofs.odd.odd_neighbours.Given as goal
+use Rattle.mc_odd.proofs.odd.odd_neighbours.Given as goal
 
 abbrev pub invariant-vertices : goal.invariant-vertices
 invariant-vertices g l = record {

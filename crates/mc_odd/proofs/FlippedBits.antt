@@ -10,7 +10,7 @@ use Rattle.mc_model.specs.Numbers.{numbers_where}
 use Rattle.mc_model.specs.Flow.{single}
 use Rattle.mc_model.specs.Graph.{Edge, joins}
 use Rattle.mc_model.proofs.OddSums.{odd-same, odd-pick}
-use Rattle.mc_make.proofs.SetSums.{parity-where}
+use Rattle.mc_odd.proofs.NumberSums.{parity-where}
 
 moved : (a b c : Bool) → (a ⊻ b) ⊻ c ≡ a ⊻ (b ⊻ c)
 moved a b c = grind arith

@@ -1,7 +1,7 @@
 use Rattle.std.specs.Prelude.{◌≡◌, ℕ, drop, length, nat_eq}
 use Rattle.mc_model.specs.Bits.{◌⊻◌, parity}
 use Rattle.mc_bits.specs.Rows.{bit_of}
-use Rattle.mc_make.proofs.odd.flip_all.Given as goal
+use Rattle.mc_odd.proofs.odd.flip_all.Given as goal
 
 abbrev pub invariant-listed : goal.invariant-listed
 invariant-listed l = record {

@@ -3,8 +3,8 @@ use Rattle.std.proofs.Common.{◌∙◌, ap, sym}
 use Rattle.mc_model.specs.Bits.{◌⊻◌, parity}
 use Rattle.mc_model.specs.Graph.{size, joins}
 use Rattle.mc_bits.specs.Rows.{bit_of}
-use Rattle.mc_make.proofs.FlippedBits.{flipped_neighbours, sum_turned}
-use Rattle.mc_make.proofs.odd.flip_neighbours_if.Goals as goal
+use Rattle.mc_odd.proofs.FlippedBits.{flipped_neighbours, sum_turned}
+use Rattle.mc_odd.proofs.odd.flip_neighbours_if.Goals as goal
 
 pub returns-then-told-clause-bits : goal.returns-then-told-clause-bits
 returns-then-told-clause-bits g c = λ v l.
