@@ -26,8 +26,8 @@ firsts_apart n m k columns p b q h = record {
       (sym (h.own i j l g) ∙ ap (b i) (sym e) ∙ h.own i i l l ∙ single_itself i);
 }
 
-module _ (n room m k : ℕ) (vectors columns : List (List Bool)) (firsts : List ℕ)
-    (has_added : Bool) (h : HoldsBasis n room m k vectors columns firsts has_added) where
+module _ (n room m k : ℕ) (vectors columns : List (List Bool)) (firsts numbers : List ℕ)
+    (has_added : Bool) (h : HoldsBasis n room m k vectors columns firsts numbers has_added) where
   abbrev pub seen : Inserted
   seen = record {
     rows = n;

@@ -80,16 +80,18 @@ fn clear_others<L: Ledger>(rows: &mut Rows, k: u16, t: u16, steps: &mut Steps<L>
 }
 
 /// Reduces the row `k`, which is a column, and where something is left makes it a vector, of which
-/// no other has the first row. Tells whether something was left.
+/// no other has the first row, and writes its number at that row. Tells whether something was left.
 pub fn join<L: Ledger>(
     vectors: &mut Rows,
     firsts: &mut [u16],
+    numbers: &mut [u16],
     k: u16,
     rows: u16,
     added: &mut bool,
     steps: &mut Steps<L>,
 ) -> bool
     requires within { (k < length vectors.old) × (rows ≡ length firsts.old) × (k ≤ rows) }
+    requires numbered { rows ≡ length numbers.old }
     requires alike { (i : ℕ) → i ≤ k →
         length (row_at vectors.old i) ≡ length (row_at vectors.old k) }
     requires width { rows ≤ length (row_at vectors.old k) }
@@ -97,9 +99,11 @@ pub fn join<L: Ledger>(
     requires own { (a i : ℕ) → a < k → i < k →
         entry vectors.old a (slice_index firsts.old i) ≡ nat_eq a i }
     ensures nothing { result ≡ false →
-        LeavesNothing rows k firsts.old vectors.old vectors.new × (firsts.new ≡ firsts.old) }
+        LeavesNothing rows k firsts.old vectors.old vectors.new × (firsts.new ≡ firsts.old)
+        × (numbers.new ≡ numbers.old) }
     ensures vector { result ≡ true →
-        BecomesVector rows k firsts.old firsts.new vectors.old vectors.new × (k < rows) }
+        BecomesVector rows k firsts.old firsts.new vectors.old vectors.new × (k < rows)
+        × (numbers.new ≡ slice_set numbers.old (slice_index firsts.new k) k) }
     ensures same { steps.new ≡ steps.old → vectors.new ≡ vectors.old }
     ensures shape { (length vectors.new ≡ length vectors.old)
         × ((i : ℕ) → length (row_at vectors.new i) ≡ length (row_at vectors.old i)) }
@@ -111,6 +115,7 @@ pub fn join<L: Ledger>(
         Some(t) => {
             *added |= clear_others(vectors, k, t, steps);
             firsts[k as usize] = t;
+            numbers[t as usize] = k;
             true
         }
         None => false,

@@ -5,7 +5,7 @@ ghost use Rattle.std.specs.Prelude.{nat_eq};
 ghost use Rattle.std.specs.Prelude.{slice_index, slice_set, cond};
 ghost use Rattle.mc_model.specs.Bits.{◌⊻◌};
 ghost use Rattle.mc_bits.specs.Rows.{bit_of, row_sum};
-ghost use Rattle.mc_elim.specs.Reduced.{null_set};
+ghost use Rattle.mc_elim.specs.Reduced.{IsNumberedBy, null_set};
 ghost use Rattle.mc_elim.specs.Tables.{row_at, entry, IsNextBit, HasNoBit};
 
 use mc_bits::{BitRow, Rows};
@@ -37,16 +37,18 @@ pub fn next_bit(row: &BitRow, low: u16, high: u16) -> Option<u16>
     None
 }
 
-/// The vector with this first row.
-pub fn vector_of(firsts: &[u16], count: u16, u: u16) -> Option<u16>
-    requires { count ≤ length firsts.now }
+/// The vector with this first row. It stands in the list of numbers at that row, where numbers of
+/// no vector may stand too.
+pub fn vector_of(firsts: &[u16], numbers: &[u16], count: u16, u: u16) -> Option<u16>
+    requires row { u < length numbers.now }
+    requires count { count ≤ length firsts.now }
+    requires numbers { IsNumberedBy count (slice_index firsts.now) (slice_index numbers.now) }
     ensures { MatchOption result ((i : ℕ) → i < count → slice_index firsts.now i ≢ u)
         (λ i. (i < count) × (slice_index firsts.now i ≡ u)) }
 {
-    'vectors: for i in 0..count {
-        if firsts[i as usize] == u {
-            return Some(i);
-        }
+    let i = numbers[u as usize];
+    if i < count && firsts[i as usize] == u {
+        return Some(i);
     }
     None
 }

@@ -1,4 +1,5 @@
-use Rattle.std.proofs.Common.{◌<◌, arith, subst, List, Bool, length}
+use Rattle.std.proofs.Common.{◌<◌, ℕ, arith, sym, ap, subst, List, Bool, length, slice_set}
+use Rattle.std.proofs.Common.{get_or-set_same}
 use Rattle.mc_elim.specs.Tables.{IsNextBit}
 use Rattle.mc_elim.proofs.RowsReduced.{next_vector, room_left}
 use Rattle.mc_elim.proofs.reduce.join.Goals as goal
@@ -31,4 +32,6 @@ returns-in-Some-clause-vector g c = λ _.
       next_vector rows k c.in-Some.t firsts old c.reduce.new.rows c.clear_others.new.rows inside
           c.reduce.ensures.reduced bit c.clear_others.ensures.cleared,
       room,
+      ap (λ (a : ℕ). slice_set c.args.numbers.now a k)
+          (sym (get_or-set_same firsts k c.in-Some.t 0 inside)),
     )

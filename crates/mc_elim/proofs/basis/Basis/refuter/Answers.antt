@@ -21,7 +21,8 @@ returns-in-Some-next_bit-clause-yes c = λ _.
     let next = subst (λ (row : List Bool). IsNextBit row (u + 1) b.rows f) c.row.ensures
     c.in-Some-next_bit.ensures in
     subst (λ (s : Inserted). IsLeastRefuter s u (bit_of c.write_null_set.new.out)) view
-    (next_refuter b.rows b.room b.inserted b.len b.vectors b.columns b.firsts.items b.has_added
+    (next_refuter b.rows b.room b.inserted b.len b.vectors b.columns
+    b.firsts.items b.numbers.items b.has_added
     c.self.invariant u within c.in-Some.i c.in-Some.ensures.0 first f next c.write_null_set.new.out
     (λ r. c.write_null_set.ensures.bits r
     ∙ ap (λ (firsts : List ℕ). null_set b.len (slice_index firsts) (entry b.vectors) f r)
@@ -40,7 +41,7 @@ returns-in-None-next_bit-clause-no c = λ _.
     c.in-None-next_bit.ensures in (
       subst (λ (s : Inserted). HasNoRefuter s u) view
           (alone_no_refuter b.rows b.room b.inserted b.len b.vectors b.columns b.firsts.items
-          b.has_added
+          b.numbers.items b.has_added
           c.self.invariant u within c.in-Some.i c.in-Some.ensures.0 first none),
       refl,
     )
@@ -58,7 +59,7 @@ returns-in-None-next_bit-clause-solved c = λ _.
     c.in-None-next_bit.ensures in
     subst (λ (s : Inserted). HasSolution s u) view
     (alone_has_solution b.rows b.room b.inserted b.len b.vectors b.columns b.firsts.items
-    b.has_added
+    b.numbers.items b.has_added
     c.self.invariant u within c.in-Some.i c.in-Some.ensures.0 first none)
 
 pub returns-in-None-clause-yes : goal.returns-in-None-clause-yes
@@ -71,7 +72,8 @@ returns-in-None-clause-yes c = λ _.
     λ i l e. c.in-None.ensures i l
     (ap (λ (f : List ℕ). slice_index f i) c.deref.ensures.value ∙ e) in
     subst (λ (s : Inserted). IsLeastRefuter s u (bit_of c.write_null_set-in-None.new.out)) view
-    (free_refuter b.rows b.room b.inserted b.len b.vectors b.columns b.firsts.items b.has_added
+    (free_refuter b.rows b.room b.inserted b.len b.vectors b.columns
+    b.firsts.items b.numbers.items b.has_added
     c.self.invariant u within free c.write_null_set-in-None.new.out
     (λ r. c.write_null_set-in-None.ensures.bits r
     ∙ ap (λ (firsts : List ℕ). null_set b.len (slice_index firsts) (entry b.vectors) u r)

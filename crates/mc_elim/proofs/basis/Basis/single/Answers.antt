@@ -20,7 +20,7 @@ returns-in-Some-next_bit-clause-no c = λ _.
     c.row.ensures c.in-Some-next_bit.ensures in (
       subst (λ (s : Inserted). HasNoSolution s u) view
           (next_no_solution b.rows b.room b.inserted b.len b.vectors b.columns b.firsts.items
-          b.has_added
+          b.numbers.items b.has_added
           c.self.invariant u within c.in-Some.i c.in-Some.ensures.0 first
           c.in-Some-next_bit.field-0 next),
       refl,
@@ -38,7 +38,8 @@ returns-in-None-next_bit-clause-yes c = λ _.
     let none = subst (λ (row : List Bool). HasNoBit row (u + 1) b.rows) c.row.ensures
     c.in-None-next_bit.ensures in
     subst (λ (s : Inserted). IsLeastSolution s u (bit_of c.write_members.new.out)) view
-    (alone_solution b.rows b.room b.inserted b.len b.vectors b.columns b.firsts.items b.has_added
+    (alone_solution b.rows b.room b.inserted b.len b.vectors b.columns
+    b.firsts.items b.numbers.items b.has_added
     c.self.invariant u within c.in-Some.i c.in-Some.ensures.0 first none c.write_members.new.out
     (λ j. c.write_members.ensures.bits j
     ∙ ap (λ (row : List Bool). bit_of row (b.rows + j)) c.row-in-None-next_bit.ensures))
@@ -55,7 +56,8 @@ returns-in-None-next_bit-clause-alone c = λ _ unadded.
     let none = subst (λ (row : List Bool). HasNoBit row (u + 1) b.rows) c.row.ensures
     c.in-None-next_bit.ensures in
     subst (λ (s : Inserted). HasOneColumn s (bit_of c.write_members.new.out)) view
-    (alone_one_column b.rows b.room b.inserted b.len b.vectors b.columns b.firsts.items b.has_added
+    (alone_one_column b.rows b.room b.inserted b.len b.vectors b.columns
+    b.firsts.items b.numbers.items b.has_added
     c.self.invariant u within c.in-Some.i c.in-Some.ensures.0 first none c.write_members.new.out
     (λ j. c.write_members.ensures.bits j
     ∙ ap (λ (row : List Bool). bit_of row (b.rows + j)) c.row-in-None-next_bit.ensures)
@@ -72,7 +74,7 @@ returns-in-None-clause-no c = λ _.
     (ap (λ (f : List ℕ). slice_index f i) c.deref.ensures.value ∙ e) in (
       subst (λ (s : Inserted). HasNoSolution s u) view
           (free_no_solution b.rows b.room b.inserted b.len b.vectors b.columns b.firsts.items
-          b.has_added
+          b.numbers.items b.has_added
           c.self.invariant u within free),
       refl,
     )
