@@ -1,7 +1,7 @@
 -- Bits of words from a place on.
 use Rattle.std.specs.Prelude.{◌≡◌, ◌≢◌, ◌⊎◌, ℕ, ◌+◌, ◌-◌, ◌*◌, ◌/◌, ◌%◌, ◌^◌}
-use Rattle.std.specs.Prelude.{◌<◌, ◌≤◌, false, nat_eq, List, length, slice_index, slice_set, bit_or, bit_and}
-use Rattle.std.specs.Prelude.{Option, Some, None, MatchOption}
+use Rattle.std.specs.Prelude.{◌<◌, ◌≤◌, false, nat_eq, List, length, slice_index, slice_set}
+use Rattle.std.specs.Prelude.{bit_or, bit_and, Option, Some, None, MatchOption}
 use Rattle.std.proofs.Common.{arith, sym, ap, ap₂, ◌∙◌, inl, inr, w64, get_or-set_same}
 use Rattle.std.proofs.Common.{get_or-set_other}
 use Rattle.std.specs.Int.{bit_at, trailing_zeros}

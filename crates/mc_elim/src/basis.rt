@@ -8,7 +8,7 @@ ghost use Rattle.mc_elim.specs.Basis.{count_of, IsSumOfInserted, IsLeastSolution
 ghost use Rattle.mc_elim.specs.Basis.{HasNoSolution, IsLeastRefuter, HasNoRefuter, HasOneColumn};
 
 use crate::reduce::join;
-use crate::tables::{marked, next_bit, vector_of, write_members, write_null_set};
+use crate::tables::{marked, vector_of, write_null_set};
 use mc_bits::{BitRow, Rows, Steps};
 use mc_model::Memory;
 use std::alloc::Global;
@@ -133,10 +133,10 @@ impl Basis {
         ensures length { length out.new ≡ length out.old }
     {
         match vector_of(&self.firsts, &self.numbers, self.len, u) {
-            Some(i) => match next_bit(self.vectors.row(i), u + 1, self.rows) {
+            Some(i) => match self.vectors.row(i).next_bit(u + 1, self.rows) {
                 Some(_) => false,
                 None => {
-                    write_members(self.vectors.row(i), self.rows, out);
+                    *out = self.vectors.row(i).tail(self.rows);
                     true
                 }
             },
@@ -156,7 +156,7 @@ impl Basis {
         ensures length { length out.new ≡ length out.old }
     {
         match vector_of(&self.firsts, &self.numbers, self.len, u) {
-            Some(i) => match next_bit(self.vectors.row(i), u + 1, self.rows) {
+            Some(i) => match self.vectors.row(i).next_bit(u + 1, self.rows) {
                 Some(f) => {
                     write_null_set(&self.vectors, &self.firsts, self.len, f, out);
                     true

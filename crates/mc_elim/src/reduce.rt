@@ -8,7 +8,6 @@ ghost use Rattle.mc_elim.specs.Tables.{row_at, entry, Cleared, CountsUpTo, IsRed
 ghost use Rattle.mc_elim.specs.Tables.{IsClearedOf, LeavesNothing, BecomesVector};
 ghost use Rattle.mc_elim.specs.Reduced.{AreApart};
 
-use crate::tables::next_bit;
 use mc_bits::{Rows, Steps, add_into, two_rows};
 use std::sync::ledger::Ledger;
 
@@ -111,7 +110,7 @@ pub fn join<L: Ledger>(
     ensures added { added.new ≡ (added.old || nat_lt steps.old steps.new) }
 {
     *added |= reduce(vectors, firsts, k, steps);
-    match next_bit(vectors.row(k), 0, rows) {
+    match vectors.row(k).next_bit(0, rows) {
         Some(t) => {
             *added |= clear_others(vectors, k, t, steps);
             firsts[k as usize] = t;

@@ -42,7 +42,8 @@ invariant_of-self g c =
     (subst (λ (f : List ℕ). HoldsBasis b.rows b.room b.inserted b.len b.vectors b.columns
     b.firsts.items f b.has_added) (sym c.deref_mut-2.ensures.value) c.self.invariant) in
     let free : b.inserted < b.room =
-    let e = taken b.rows b.room b.inserted b.len b.vectors b.columns firsts numbers b.has_added held in
+    let e = taken b.rows b.room b.inserted b.len b.vectors b.columns firsts numbers b.has_added
+    held in
     omega arith in
     let step : Step b.rows b.room b.inserted b.len b.vectors now.vectors firsts now.firsts
     numbers now.numbers column joins counted =
@@ -112,7 +113,8 @@ returns-clause-sum g c =
     (subst (λ (f : List ℕ). HoldsBasis b.rows b.room b.inserted b.len b.vectors b.columns
     b.firsts.items f b.has_added) (sym c.deref_mut-2.ensures.value) c.self.invariant) in
     let free : b.inserted < b.room =
-    let e = taken b.rows b.room b.inserted b.len b.vectors b.columns firsts numbers b.has_added held in
+    let e = taken b.rows b.room b.inserted b.len b.vectors b.columns firsts numbers b.has_added
+    held in
     omega arith in
     let step : Step b.rows b.room b.inserted b.len b.vectors now.vectors firsts now.firsts
     numbers now.numbers column joins counted =
@@ -153,7 +155,8 @@ returns-clause-some g c = λ no r has.
     (subst (λ (f : List ℕ). HoldsBasis b.rows b.room b.inserted b.len b.vectors b.columns
     b.firsts.items f b.has_added) (sym c.deref_mut-2.ensures.value) c.self.invariant) in
     let free : b.inserted < b.room =
-    let e = taken b.rows b.room b.inserted b.len b.vectors b.columns firsts numbers b.has_added held in
+    let e = taken b.rows b.room b.inserted b.len b.vectors b.columns firsts numbers b.has_added
+    held in
     omega arith in
     let step : Step b.rows b.room b.inserted b.len b.vectors now.vectors firsts now.firsts
     numbers now.numbers column joins counted =
