@@ -6,11 +6,12 @@ use Rattle.std.proofs.Common.{get_or-set_other, length-set}
 use Rattle.std.proofs.lemmas.Bool.{lt-ltb, le-ltb}
 use Rattle.mc_model.specs.Bits.{◌⊻◌, Bits, odd}
 use Rattle.mc_model.proofs.OddSums.{odd-none}
+use Rattle.mc_bits.specs.Words.{IsNextBit}
 use Rattle.mc_bits.specs.Rows.{bit_of, row_sum}
 use Rattle.mc_bits.proofs.RowsByBits.{row_sum-bit, row_sum-length}
 use Rattle.mc_elim.specs.Reduced.{rest, AreApart}
 use Rattle.mc_elim.specs.Tables.{row_at, entry, Cleared, CountsUpTo, IsReducedBy, IsClearedOf}
-use Rattle.mc_elim.specs.Tables.{IsNextBit, BecomesVector}
+use Rattle.mc_elim.specs.Tables.{BecomesVector}
 use Rattle.mc_elim.proofs.ReducedGrows.{rest_at_first}
 use Rattle.mc_elim.proofs.NoMoreThanRows.{room_for_one}
 use Rattle.mc_elim.proofs.BitSums.{xor_right, and_right, odd-last, same_or_not, last_or_before}
@@ -159,7 +160,7 @@ module _ (old : List (List Bool)) (k t : ℕ) where
 -- ---- the next vector
 
 pub next_vector : (n k t : ℕ) (firsts : List ℕ) (old now new : List (List Bool)) →
-    k < length firsts → IsReducedBy old now firsts k k → IsNextBit (row_at now k) 0 n t →
+    k < length firsts → IsReducedBy old now firsts k k → IsNextBit (entry now k) 0 n t →
     IsClearedOf now new k t k → BecomesVector n k firsts (slice_set firsts k t) old new
 next_vector n k t firsts old now new within h bit c = record {
   t = t;
@@ -181,7 +182,7 @@ next_vector n k t firsts old now new within h bit c = record {
 pub room_left : (n k t : ℕ) (firsts : List ℕ) (old now : List (List Bool)) →
     AreApart n k (slice_index firsts) →
     ((a i : ℕ) → a < k → i < k → entry old a (slice_index firsts i) ≡ nat_eq a i) →
-    IsReducedBy old now firsts k k → IsNextBit (row_at now k) 0 n t → k < n
+    IsReducedBy old now firsts k k → IsNextBit (entry now k) 0 n t → k < n
 room_left n k t firsts old now apart own h bit =
     room_for_one n k t (slice_index firsts) apart bit.below
     (λ i l e. clash (entry now k t) bit.has

@@ -40,16 +40,6 @@ pub record IsClearedOf (old new : List (List Bool)) (k t i : ℕ) : Type 0 where
   pub count : length new ≡ length old
   pub width : (a : ℕ) → length (row_at new a) ≡ length (row_at old a)
 
--- the first bit of a row from `low` on and below `high`
-pub record IsNextBit (row : List Bool) (low high t : ℕ) : Type 0 where
-  pub above : low ≤ t
-  pub below : t < high
-  pub has : bit_of row t ≡ true
-  pub first : (r : ℕ) → low ≤ r → r < t → bit_of row r ≡ false
-
-abbrev pub HasNoBit : List Bool → ℕ → ℕ → Type 0
-HasNoBit row low high = (r : ℕ) → low ≤ r → r < high → bit_of row r ≡ false
-
 -- nothing of the row `k` was left
 pub record LeavesNothing (n k : ℕ) (firsts : List ℕ) (old new : List (List Bool)) : Type 0 where
   pub none : (r : ℕ) → r < n → rest k (slice_index firsts) (entry old) (entry old k) r ≡ false

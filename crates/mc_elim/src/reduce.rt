@@ -8,7 +8,6 @@ ghost use Rattle.mc_elim.specs.Tables.{row_at, entry, Cleared, CountsUpTo, IsRed
 ghost use Rattle.mc_elim.specs.Tables.{IsClearedOf, LeavesNothing, BecomesVector};
 ghost use Rattle.mc_elim.specs.Reduced.{AreApart};
 
-use crate::tables::next_bit;
 use mc_bits::{Rows, Steps, add_into, two_rows};
 use std::sync::ledger::Ledger;
 
@@ -80,16 +79,18 @@ fn clear_others<L: Ledger>(rows: &mut Rows, k: u16, t: u16, steps: &mut Steps<L>
 }
 
 /// Reduces the row `k`, which is a column, and where something is left makes it a vector, of which
-/// no other has the first row. Tells whether something was left.
+/// no other has the first row, and writes its number at that row. Tells whether something was left.
 pub fn join<L: Ledger>(
     vectors: &mut Rows,
     firsts: &mut [u16],
+    numbers: &mut [u16],
     k: u16,
     rows: u16,
     added: &mut bool,
     steps: &mut Steps<L>,
 ) -> bool
     requires within { (k < length vectors.old) × (rows ≡ length firsts.old) × (k ≤ rows) }
+    requires numbered { rows ≡ length numbers.old }
     requires alike { (i : ℕ) → i ≤ k →
         length (row_at vectors.old i) ≡ length (row_at vectors.old k) }
     requires width { rows ≤ length (row_at vectors.old k) }
@@ -97,9 +98,11 @@ pub fn join<L: Ledger>(
     requires own { (a i : ℕ) → a < k → i < k →
         entry vectors.old a (slice_index firsts.old i) ≡ nat_eq a i }
     ensures nothing { result ≡ false →
-        LeavesNothing rows k firsts.old vectors.old vectors.new × (firsts.new ≡ firsts.old) }
+        LeavesNothing rows k firsts.old vectors.old vectors.new × (firsts.new ≡ firsts.old)
+        × (numbers.new ≡ numbers.old) }
     ensures vector { result ≡ true →
-        BecomesVector rows k firsts.old firsts.new vectors.old vectors.new × (k < rows) }
+        BecomesVector rows k firsts.old firsts.new vectors.old vectors.new × (k < rows)
+        × (numbers.new ≡ slice_set numbers.old (slice_index firsts.new k) k) }
     ensures same { steps.new ≡ steps.old → vectors.new ≡ vectors.old }
     ensures shape { (length vectors.new ≡ length vectors.old)
         × ((i : ℕ) → length (row_at vectors.new i) ≡ length (row_at vectors.old i)) }
@@ -107,10 +110,11 @@ pub fn join<L: Ledger>(
     ensures added { added.new ≡ (added.old || nat_lt steps.old steps.new) }
 {
     *added |= reduce(vectors, firsts, k, steps);
-    match next_bit(vectors.row(k), 0, rows) {
+    match vectors.row(k).next_bit(0, rows) {
         Some(t) => {
             *added |= clear_others(vectors, k, t, steps);
             firsts[k as usize] = t;
+            numbers[t as usize] = k;
             true
         }
         None => false,
