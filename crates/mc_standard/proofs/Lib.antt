@@ -10,3 +10,4 @@ pub mod RuleTypes
 pub mod RunningPass
 pub mod StandardPatterns
 pub mod StandardTyped
+pub mod SumBits

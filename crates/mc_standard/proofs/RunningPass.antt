@@ -1,6 +1,6 @@
 -- One more command of a pass, and what the pass comes to at the end.
-use Rattle.std.proofs.Common.{◌≡◌, ℕ, zero, suc, ◌+◌, ◌<◌, ◌≤◌, Bool, false, List, [], ◌∷◌}
-use Rattle.std.proofs.Common.{◌++◌}
+use Rattle.std.proofs.Common.{◌≡◌, ℕ, zero, suc, ◌+◌, ◌<◌, ◌≤◌, Bool, true, false, List, [], ◌∷◌}
+use Rattle.std.proofs.Common.{◌++◌, cond, nat_eq}
 use Rattle.std.proofs.Common.{length, map, drop, set, get_or, get_or-set_same, get_or-set_other}
 use Rattle.std.proofs.Common.{refl, sym, ◌∙◌, ap, ap₂, arith, append_assoc, append-nil}
 use Rattle.std.proofs.lemmas.Bool.{eq-eqb, ne_eqb, cases_eq}
@@ -151,9 +151,18 @@ unfolding corrections_below
 corrections-next ss ts q =
     let e : q + 1 ≡ suc q = omega arith in ap (corrections_below (λ k. false) ss ts) e
 
-pub still_carried : (xs : Signals) (q k : ℕ) → q + 1 ≤ k → handed_out xs q k ≡ xs k
-still_carried xs q k h =
-    let other : k ≡ q → ⊥ = λ e. absurd (omega arith) in rw (ne_eqb k q other) refl
+-- what is handed out once a signal was added, and what is left
+pub handed_sum : (xs : Signals) (q : ℕ) (s : Signal) → joined xs q s q ≡ signal_sum (xs q) s
+handed_sum xs q s = rw (eq-eqb q q refl) refl
+
+pub handed_rest : (xs : Signals) (q : ℕ) (s : Signal) →
+    handed_out (joined xs q s) q ≡ handed_out xs q
+handed_rest xs q s = fun_ext λ k. kept (nat_eq k q) (xs k) (signal_sum (xs q) s)
+  where
+    kept : (same : Bool) (x sum : Signal) →
+        cond same no_signal (cond same sum x) ≡ cond same no_signal x
+    kept true x sum = refl
+    kept false x sum = refl
 
 -- ---- the whole
 

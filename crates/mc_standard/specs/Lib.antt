@@ -5,4 +5,5 @@ pub mod Plain
 pub mod Running
 pub mod StandardForms
 pub mod Stepping
+pub mod Sums
 pub mod Uses

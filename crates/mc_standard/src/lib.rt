@@ -18,6 +18,7 @@ mod search;
 mod signals;
 mod standard;
 mod standardisation;
+mod sum;
 #[cfg(test)]
 mod tests;
 
@@ -25,3 +26,4 @@ pub use rewriter::Rewriter;
 pub use rule::{Rule, Use};
 pub use standard::{Fix, Measure, Standard};
 pub use standardisation::standardise;
+pub use sum::Sum;
