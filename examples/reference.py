@@ -379,6 +379,9 @@ KNOWN = {
     "toffoli": (3, 3, lambda y, b: (0, 0) if y == (b[0], b[1], b[2] ^ (b[0] & b[1])) else None),
     "fourier": (4, 3, fourier),
     "fourier_sixteenths": (3, 3, lambda y, b: (2 * weight(y) * weight(b) % 16, 3)),
+    "grover": (2, 0, lambda y, b: (4, 0) if y == (1, 1) else None),
+    "bernstein_vazirani": (4, 0, lambda y, b: (4 * y[3], 1) if y[:3] == (1, 0, 1) else None),
+    "teleported": (3, 1, lambda y, b: (0, 2) if y[2] == b[0] else None),
 }
 
 
