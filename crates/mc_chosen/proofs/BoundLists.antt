@@ -17,8 +17,7 @@ use Rattle.mc_elim.proofs.BitSums.{clash, not_true}
 use Rattle.mc_graph.specs.Flows.{FlowRows, layer_in, sets_in}
 use Rattle.mc_graph.specs.RowLists.{HaveOwnVertices, has_row}
 use Rattle.mc_graph.proofs.ListedNumbers.{member-where, numbers_where-below, numbers_where-rise}
-use Rattle.mc_cert.specs.declared.rows.BoundRow.{BoundRow}
-use Rattle.mc_cert.specs.declared.rows.LayerRow.{LayerRow}
+use Rattle.mc_cert.specs.BoundRecords.{LayerRow, BoundRow}
 use Rattle.mc_cert.specs.BoundRules.{IsAsked, is_for, keeping_in, stated_in}
 use Rattle.mc_cert.specs.Bounds.{BoundRows}
 use Rattle.mc_cert.proofs.RowLemmas.{count_of_distinct, found_none, found_row, listed_has_row}
