@@ -173,6 +173,7 @@ returns-clause-some g c = λ no r has.
     let some : (now.steps ≤ c.args.steps.now) → ⊥ = λ low.
     let none : counted ≡ 0 = omega arith in
     clash (bit_of column r) has
-    (all_zero_column b.rows b.room b.inserted b.len b.vectors b.columns firsts numbers b.has_added held
+    (all_zero_column b.rows b.room b.inserted b.len b.vectors b.columns firsts numbers b.has_added
+    held
     column width free now.vectors now.firsts now.numbers joins counted step no none r) in
     omega arith
