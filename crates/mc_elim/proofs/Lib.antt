@@ -2,6 +2,7 @@ pub mod AlikeBases
 pub mod BasisAnswers
 pub mod BasisGrows
 pub mod BitSums
+pub mod FlippedMembers
 pub mod LeastSets
 pub mod NoMoreThanRows
 pub mod ReducedGrows

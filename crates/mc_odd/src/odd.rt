@@ -7,6 +7,7 @@ ghost use Rattle.mc_model.specs.Graph.{size, joins, odd_neighbourhood};
 ghost use Rattle.mc_bits.specs.Rows.{bit_of};
 
 use mc_bits::BitRow;
+use mc_elim::row_of;
 use mc_graph::{OpenGraph, QSet};
 
 /// Changes the bit of each listed vertex, once for each place where it is listed.
@@ -41,9 +42,10 @@ pub fn odd_neighbours<const H: usize>(g: &OpenGraph<H>, set: &QSet) -> BitRow
         bit_of result v ≡ odd_neighbourhood g.now (is_member set.now) v }
     ensures length { length result ≡ size g.now }
 {
+    let members = row_of(set, g.len());
     let mut odd = BitRow::new(g.len());
     'vertices: for w in 0..g.len() {
-        flip_neighbours_if(set.has(w), g, w, &mut odd);
+        flip_neighbours_if(members.bit(w), g, w, &mut odd);
     }
     odd
 }

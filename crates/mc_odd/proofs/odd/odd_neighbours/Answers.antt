@@ -19,9 +19,13 @@ vertices-init g c = record {
 
 pub vertices-preserved : goal.vertices-preserved
 vertices-preserved g c = record {
-  bits = flipped_more c.args.g.now.edges (size c.args.g.now) c.vertices.w
+  bits =
+      let test = c.vertices-test.true in
+      flipped_more c.args.g.now.edges (size c.args.g.now) c.vertices.w
       (is_member c.args.set.now) (bit_of c.vertices.odd) (bit_of c.flip_neighbours_if.new.bits)
-      c.has.result c.has.ensures.member c.vertices.invariant.bits c.flip_neighbours_if.ensures.bits;
+      c.bit.result
+      (c.bit.ensures ∙ c.row_of-members.ensures.bits c.vertices.w (omega arith))
+      c.vertices.invariant.bits c.flip_neighbours_if.ensures.bits;
   length = c.flip_neighbours_if.ensures.length ∙ c.vertices.invariant.length;
 }
 
