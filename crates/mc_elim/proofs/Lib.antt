@@ -5,6 +5,7 @@ pub mod BitSums
 pub mod LeastSets
 pub mod NoMoreThanRows
 pub mod ReducedGrows
+pub mod RestByRows
 pub mod RowsReduced
 pub mod RowsWritten
 pub mod UnitsByBasis
