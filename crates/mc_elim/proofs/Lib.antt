@@ -6,6 +6,7 @@ pub mod FlippedMembers
 pub mod LeastSets
 pub mod NoMoreThanRows
 pub mod ReducedGrows
+pub mod RestByRows
 pub mod RowsReduced
 pub mod RowsWritten
 pub mod UnitsByBasis

@@ -33,6 +33,13 @@ pub record IsReducedBy (old new : List (List Bool)) (firsts : List ℕ) (k i : �
   pub count : length new ≡ length old
   pub width : length (row_at new k) ≡ length (row_at old k)
 
+-- the vector with the first row `u`, if there is one, was added into the row `k`
+abbrev pub IsReducedAt : List (List Bool) → List (List Bool) → List ℕ → ℕ → ℕ → Bool → Type 0
+IsReducedAt old new firsts k u true =
+    (i : ℕ) × (i < k) × (slice_index firsts i ≡ u) × Cleared old new i k u
+IsReducedAt old new firsts k u false =
+    ((i : ℕ) → i < k → slice_index firsts i ≢ u) × (new ≡ old)
+
 -- the row `k` was added into each of the first `i` rows that has the bit `t`
 pub record IsClearedOf (old new : List (List Bool)) (k t i : ℕ) : Type 0 where
   pub done : (a r : ℕ) → a < i → entry new a r ≡ entry old a r ⊻ (entry old a t && entry old k r)

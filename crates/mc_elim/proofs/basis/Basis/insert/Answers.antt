@@ -5,7 +5,7 @@ use Rattle.std.specs.Prelude.{slice_index, nat_lt}
 use Rattle.std.proofs.lemmas.Bool.{ltb-false}
 use mir.Val.{bool_byte}
 use Rattle.mc_bits.specs.Rows.{bit_of}
-use Rattle.mc_elim.specs.Reduced.{AreApart}
+use Rattle.mc_elim.specs.Reduced.{AreApart, IsNumberedBy}
 use Rattle.mc_elim.specs.Basis.{Inserted, HoldsBasis, IsSumOfInserted, count_of}
 use Rattle.mc_elim.proofs.BasisAnswers.{firsts_apart, taken}
 use Rattle.mc_elim.proofs.BasisGrows.{Step, basis_more, dependence, all_zero_column, written_whole}
@@ -18,6 +18,14 @@ join-joined-requires-clause-apart g c =
     let b = c.self.inside in
     subst (λ (f : List ℕ). AreApart b.rows b.len (slice_index f)) (sym c.deref_mut.ensures.value)
     (firsts_apart b.rows b.inserted b.len _ _ _ _ c.self.invariant.reduced)
+
+pub join-joined-requires-clause-numbered : goal.join-joined-requires-clause-numbered
+join-joined-requires-clause-numbered g c =
+    let b = c.self.inside in
+    subst (λ (f : List ℕ). IsNumberedBy b.len (slice_index f)
+    (slice_index c.deref_mut-2.result.now)) (sym c.deref_mut.ensures.value)
+    (subst (λ (f : List ℕ). IsNumberedBy b.len (slice_index b.firsts.items) (slice_index f))
+    (sym c.deref_mut-2.ensures.value) c.self.invariant.numbered)
 
 pub invariant_of-self : goal.invariant_of-self
 invariant_of-self g c =
