@@ -12,9 +12,9 @@ use Rattle.mc_odd.proofs.odd.odd_neighbours.Goals as goal
 pub vertices-init : goal.vertices-init
 unfolding odd
 vertices-init g c = record {
-  bits = λ v l. ap (λ (row : List Bool). bit_of row v) c.new-odd.ensures ∙ no_bits c.len.result v;
+  bits = λ v l. ap (λ (row : List Bool). bit_of row v) c.new-odd.ensures ∙ no_bits c.len-2.result v;
   length = ap (λ (row : List Bool). length row) c.new-odd.ensures
-      ∙ length-replicate c.len.result false ∙ c.len.ensures.len;
+      ∙ length-replicate c.len-2.result false ∙ c.len-2.ensures.len;
 }
 
 pub vertices-preserved : goal.vertices-preserved
