@@ -2,6 +2,7 @@ pub mod CodeParts
 pub mod Edits
 pub mod ImprovedAtPlace
 pub mod InParts
+pub mod NextOnes
 pub mod OddPairs
 pub mod OrderedFronts
 pub mod PickedRules

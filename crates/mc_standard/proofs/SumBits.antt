@@ -1,17 +1,13 @@
 -- Sums of signals by their bits: rising lists by their members, and the members of words.
-use Rattle.std.proofs.Common.{◌≡◌, ℕ, zero, suc, ◌+◌, ◌*◌, ◌/◌, ◌%◌, ◌^◌, ◌<◌, ◌≤◌, Bool, true}
+use Rattle.std.proofs.Common.{◌≡◌, ℕ, zero, suc, ◌+◌, ◌<◌, ◌≤◌, Bool, true}
 use Rattle.std.proofs.Common.{false, ◌&&◌, List, [], ◌∷◌, refl, sym, ap, ap₂, ◌∙◌, arith, length}
-use Rattle.std.proofs.Common.{◌-◌, drop, nat_eq, nat_lt, All, subst}
-use Rattle.std.specs.Prelude.{Some, slice_get, slice_index, not}
-use Rattle.std.specs.Int.{bit_at, trailing_zeros, w64}
-use Rattle.std.specs.Int.Count.{count_trailing_zeros}
+use Rattle.std.proofs.Common.{drop, nat_eq, nat_lt, All, subst}
+use Rattle.std.specs.Prelude.{Some, slice_get, not}
 use Rattle.std.specs.List.{filter}
 use Rattle.std.proofs.lemmas.Bool.{eq-eqb, ne_eqb, lt-ltb, le-ltb, cases_Bool, cases_order}
 use Rattle.std.proofs.lemmas.Bool.{false≢true, ltb-true, ltb-false}
 use Rattle.std.proofs.lemmas.Option.{slice_get_within, get_or_from_slice_get}
 use Rattle.std.proofs.lemmas.List.{drop_all}
-use Rattle.std.proofs.lemmas.Nat.{shr-shr, shr_le}
-use Rattle.std.proofs.lemmas.Nat.Bits.{bit_at-trailing_zeros, bit_at_above, bit_at-zero}
 use Rattle.std.proofs.Math.Seq.{drop-cons}
 use mathlib.Core.Bool.{beq}
 use mathlib.Core.Logic.{inl, inr}
@@ -25,6 +21,7 @@ use Rattle.mc_signal.proofs.Members.{is_member-toggled_all}
 use Rattle.mc_signal.proofs.Rising.{AllAbove-lower, rising_drop}
 use Rattle.mc_bits.specs.Words.{word_bit}
 use Rattle.mc_bits.proofs.BitsOfWords.{zero_words}
+use Rattle.mc_standard.specs.NextBits.{IsNext}
 use Rattle.mc_standard.specs.Sums.{summed, HasBelow}
 
 -- ---- rising lists
@@ -192,144 +189,52 @@ flipped_all qs i k a x over h =
 
 -- ---- the members of words, by rising bits
 
--- the lowest bit of a word from `k` on that is 1
-pub record IsNextBit (word k n : ℕ) : Type 0 where
-  pub from : k ≤ n
-  pub small : n < 64
-  pub set : bit_at word n ≡ 1
-  pub none : (i : ℕ) → k ≤ i → i < n → bit_at word i ≡ 0
-
-bit_behind : (word k i : ℕ) → bit_at (word / 2 ^ k) i ≡ bit_at word (k + i)
-bit_behind word k i = ap (λ (n : ℕ). n % 2) (shr-shr word k i)
-
-pub next_bit : (word k n : ℕ) → word < 2 ^ 64 → 0 < word / 2 ^ k →
-    n ≡ k + count_trailing_zeros 64 (word / 2 ^ k) → IsNextBit word k n
-next_bit word k n fits some same =
-    let le = shr_le word k in
-    let t = trailing_zeros w64 (word / 2 ^ k) in
-    let lowest = bit_at-trailing_zeros w64 (word / 2 ^ k) some (omega arith) in
-    let set : bit_at word n ≡ 1 =
-    ap (bit_at word) same ∙ sym (bit_behind word k t) ∙ lowest.1 in
-    record {
-      from = omega arith;
-      small = elim (cases_Bool (nat_lt n 64)) [
-        | inl e ↦ ltb-true n 64 e
-        | inr e ↦
-            let none : bit_at word n ≡ 0 = bit_at_above word 64 n fits (ltb-false n 64 e) in
-            absurd (omega arith)
+-- the set with the next number, whose bit is 1
+pub has_more : (words set more : List ℕ) (n : ℕ) → HasBelow words n set →
+    word_bit words n ≡ true →
+    ((k : ℕ) → is_member more k ≡ (is_member set k ⊻ nat_eq k n)) → HasBelow words (n + 1) more
+has_more words set more n has one changed = record {
+  at = λ k.
+      changed k
+      ∙ ap (λ (b : Bool). b ⊻ nat_eq k n) (has.at k)
+      ∙ elim (cases_order k n) [
+        | inl e ↦
+            rw (e, eq-eqb n n refl, le-ltb n n (omega arith), lt-ltb n (n + 1) (omega arith), one) refl
+        | inr other ↦ elim other [
+          | inl lt ↦
+              rw (
+                lt-ltb k n lt,
+                lt-ltb k (n + 1) (omega arith),
+                ne_eqb k n (λ e. absurd (omega arith)),
+              )
+              (sym (xor_none (word_bit words k)))
+          | inr gt ↦
+              rw (
+                le-ltb k n (omega arith),
+                le-ltb k (n + 1) (omega arith),
+                ne_eqb k n (λ e. absurd (omega arith)),
+              ) refl
+        ]
       ];
-      set = set;
-      none = λ i le lt.
-          let at : k + (i - k) ≡ i = omega arith in
-          ap (bit_at word) (sym at) ∙ sym (bit_behind word k (i - k))
-          ∙ lowest.2 (i - k) (omega arith);
-    }
+}
 
--- no bit of a word from `k` on is 1
-pub no_bit : (word k i : ℕ) → word / 2 ^ k ≡ 0 → k ≤ i → bit_at word i ≡ 0
-no_bit word k i none le =
-    let at : k + (i - k) ≡ i = omega arith in
-    ap (bit_at word) (sym at) ∙ sym (bit_behind word k (i - k))
-    ∙ ap (λ (n : ℕ). bit_at n (i - k)) none ∙ bit_at-zero (i - k)
-
--- a bit of the word `i`
-in_word : (words : List ℕ) (i k : ℕ) → k < 64 →
-    word_bit words (64 * i + k) ≡ nat_eq (bit_at (slice_index words i) k) 1
-in_word words i k small =
-    let whole : (64 * i + k) / 64 ≡ i = omega arith in
-    let rest : (64 * i + k) % 64 ≡ k = omega arith in
-    ap₂ (λ (j l : ℕ). nat_eq (bit_at (slice_index words j) l) 1) whole rest
-
-in_word_none : (words : List ℕ) (word i k n j : ℕ) → word ≡ slice_index words i → n ≤ 64 →
-    ((l : ℕ) → k ≤ l → l < n → bit_at word l ≡ 0) → 64 * i + k ≤ j → j < 64 * i + n →
-    word_bit words j ≡ false
-in_word_none words word i k n j read small none from below =
-    let l : ℕ = j - 64 * i in
-    let at : 64 * i + l ≡ j = omega arith in
-    ap (word_bit words) (sym at)
-    ∙ in_word words i l (omega arith)
-    ∙ ap (λ (w : ℕ). nat_eq (bit_at w l) 1) (sym read)
-    ∙ ap (λ (b : ℕ). nat_eq b 1) (none l (omega arith) (omega arith))
-
--- one more member, behind numbers whose bits are 0
-one_more : (f : Bits) (m n k : ℕ) (a b : Bool) → a ≡ (nat_lt k m && f k) → m ≤ n →
-    ((j : ℕ) → m ≤ j → j < n → f j ≡ false) → f n ≡ true → b ≡ (a ⊻ nat_eq k n) →
-    b ≡ (nat_lt k (n + 1) && f k)
-one_more f m n k a b has le none set changed = elim (cases_order k n) [
-  | inl e ↦
-      changed
-      ∙ ap₂ (λ (x y : Bool). x ⊻ y)
-      (has ∙ ap (λ (x : Bool). x && f k) (le-ltb k m (omega arith))) (eq-eqb k n e)
-      ∙ sym (ap₂ (λ (x y : Bool). x && y) (lt-ltb k (n + 1) (omega arith)) (ap f e ∙ set))
-  | inr other ↦ elim other [
-    | inl lt ↦
-        let apart : k ≡ n → ⊥ = λ e. absurd (omega arith) in
-        changed
-        ∙ ap (λ (y : Bool). a ⊻ y) (ne_eqb k n apart)
-        ∙ sym (xor_none a)
-        ∙ has
-        ∙ before (nat_lt k m) (f k) (λ e. none k (ltb-false k m e) lt)
-        ∙ sym (ap (λ (x : Bool). x && f k) (lt-ltb k (n + 1) (omega arith)))
-    | inr gt ↦
-        let apart : k ≡ n → ⊥ = λ e. absurd (omega arith) in
-        changed
-        ∙ ap (λ (y : Bool). a ⊻ y) (ne_eqb k n apart)
-        ∙ sym (xor_none a)
-        ∙ has
-        ∙ ap (λ (x : Bool). x && f k) (le-ltb k m (omega arith))
-        ∙ sym (ap (λ (x : Bool). x && f k) (le-ltb k (n + 1) (omega arith)))
-  ]
-]
-  where
-    before : (t b : Bool) → (t ≡ false → b ≡ false) → (t && b) ≡ (true && b)
-    before t b none = grind arith
-
-no_more : (f : Bits) (m n k : ℕ) → m ≤ n → ((j : ℕ) → m ≤ j → j < n → f j ≡ false) →
-    (nat_lt k m && f k) ≡ (nat_lt k n && f k)
-no_more f m n k le none = elim (cases_Bool (nat_lt k m)) [
-  | inl e ↦ let lt = ltb-true k m e in
-      ap (λ (x : Bool). x && f k) (e ∙ sym (lt-ltb k n (omega arith)))
-  | inr e ↦ elim (cases_Bool (nat_lt k n)) [
-    | inl g ↦ ap (λ (x : Bool). x && f k) e
-        ∙ sym (ap₂ (λ (x y : Bool). x && y) g (none k (ltb-false k m e) (ltb-true k n g)))
-    | inr g ↦ ap (λ (x : Bool). x && f k) (e ∙ sym g)
-  ]
-]
-
--- the members up to the next bit that is 1
-pub has_next : (words set more : List ℕ) (word i k n : ℕ) → word ≡ slice_index words i →
-    HasBelow words (64 * i + k) set → IsNextBit word k n →
-    ((q : ℕ) → is_member more q ≡ (is_member set q ⊻ nat_eq q (64 * i + n))) →
-    HasBelow words (64 * i + (n + 1)) more
-has_next words set more word i k n read has next changed =
-    let from = next.from in
-    let small = next.small in
-    let bit : word_bit words (64 * i + n) ≡ true =
-    in_word words i n small ∙ ap (λ (w : ℕ). nat_eq (bit_at w n) 1) (sym read)
-    ∙ ap (λ (b : ℕ). nat_eq b 1) next.set in
-    let end : (64 * i + n) + 1 ≡ 64 * i + (n + 1) = omega arith in
-    subst (λ (m : ℕ). HasBelow words m more) end
-    (record {
-      at = λ q.
-          one_more (word_bit words) (64 * i + k) (64 * i + n) q (is_member set q) (is_member more q)
-          (has.at q) (omega arith)
-          (λ j from below. in_word_none words word i k n j read (omega arith) next.none from below)
-          bit (changed q);
-    })
-
--- behind the last bit that is 1
-pub has_word : (words set : List ℕ) (word i k : ℕ) → word ≡ slice_index words i → k ≤ 64 →
-    HasBelow words (64 * i + k) set → ((l : ℕ) → k ≤ l → l < 64 → bit_at word l ≡ 0) →
-    HasBelow words (64 * (i + 1)) set
-has_word words set word i k read le has none =
-    let end : 64 * i + 64 ≡ 64 * (i + 1) = omega arith in
-    subst (λ (m : ℕ). HasBelow words m set) end
-    (record {
-      at = λ q.
-          has.at q
-          ∙ no_more (word_bit words) (64 * i + k) (64 * i + 64) q (omega arith)
-          (λ j from below. in_word_none words word i k 64 j read (omega arith) none from below);
-    })
+-- up to the next number whose bit is 1
+pub has_next : (words set : List ℕ) (m end n : ℕ) → HasBelow words m set →
+    IsNext (word_bit words) m end n → HasBelow words n set
+has_next words set m end n has next = record {
+  at = λ k.
+      has.at k ∙ elim (cases_Bool (nat_lt k m)) [
+        | inl e ↦
+            let lt = ltb-true k m e in
+            let order = next.order in
+            ap (λ (b : Bool). b && word_bit words k) (e ∙ sym (lt-ltb k n (omega arith)))
+        | inr e ↦ elim (cases_Bool (nat_lt k n)) [
+          | inl g ↦
+              rw (e, g) (sym (next.none k (ltb-false k m e) (ltb-true k n g)))
+          | inr g ↦ ap (λ (b : Bool). b && word_bit words k) (e ∙ sym g)
+        ]
+      ];
+}
 
 pub has_none : (words : List ℕ) → HasBelow words 0 []
 has_none words = record {

@@ -1,4 +1,5 @@
 pub mod Changes
+pub mod NextBits
 pub mod OddPairs
 pub mod Places
 pub mod Plain

@@ -6,6 +6,7 @@
 #![tactic(auto)]
 
 mod apply;
+mod bits;
 mod change;
 mod copy;
 mod listing;

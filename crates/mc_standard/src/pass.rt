@@ -19,7 +19,7 @@ use std::alloc::Global;
 #[derive(Drop)]
 pub(crate) struct Pass<const H: usize> {
     pub(crate) preps: Vec<u16>,
-    pub(crate) odd: Vec<bool>,
+    pub(crate) odd: Vec<u64>,
     pub(crate) measures: Vec<Measure<H>>,
     pub(crate) xs: Vec<Sum>,
     pub(crate) zs: Vec<Sum>,

@@ -1,12 +1,13 @@
 //! Sums of signals.
 
-ghost use Rattle.std.specs.Prelude.{◌≡◌, ℕ, ◌+◌, ◌*◌, ◌<◌, All, IfOk, OnOk, nat_eq};
+ghost use Rattle.std.specs.Prelude.{◌≡◌, ℕ, ◌<◌, All, IfOk, nat_eq};
 ghost use Rattle.mc_model.specs.Numbers.{is_member};
 ghost use Rattle.mc_model.specs.Bits.{◌⊻◌};
 ghost use Rattle.mc_model.specs.Signals.{IsRising, no_signal, signal_sum};
 ghost use Rattle.mc_bits.specs.Words.{word_bit};
 ghost use Rattle.mc_standard.specs.Sums.{HasBelow};
 
+use crate::bits::next_one;
 use mc_model::Memory;
 use mc_signal::{QSet, Signal};
 use std::alloc::Global;
@@ -43,33 +44,15 @@ fn add_words(from: &Words, to: &mut Words)
     }
 }
 
-/// Adds to a set the numbers whose bits in a word are 1.
-fn add_word(set: &mut QSet, words: &Words, i: usize) -> Result<(), Memory>
-    requires word { i < 4 }
-    requires below { HasBelow words.now (64 * i) set.old }
-    ensures { OnOk result (HasBelow words.now (64 * (i + 1)) set.new) }
-{
-    let word = words[i];
-    let mut k: u32 = 0;
-    'bits: while k < 64 {
-        let rest = word >> k;
-        if rest == 0 {
-            return Ok(());
-        }
-        k += rest.trailing_zeros();
-        set.toggle(64 * i as u16 + k as u16)?;
-        k += 1;
-    }
-    Ok(())
-}
-
 /// The numbers whose bits are 1.
 fn members_of(alloc: Global, words: &Words) -> Result<QSet, Memory>
     ensures { IfOk result (HasBelow words.now 256) }
 {
     let mut set = QSet::new(alloc);
-    'words: for i in 0..4 {
-        add_word(&mut set, words, i)?;
+    let mut q = next_one(words, 0, 256);
+    'members: while q < 256 {
+        set.toggle(q as u16)?;
+        q = next_one(words, q + 1, 256);
     }
     Ok(set)
 }
