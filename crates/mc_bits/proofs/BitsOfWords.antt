@@ -48,7 +48,7 @@ one_bit m k h =
       | inr ne ↦ ap (λ (n : ℕ). nat_eq n 1) (bit_at-pow_other m k ne) ∙ sym (ne_eqb k m ne)
     ]
 
-xor_none : (a : Bool) → a ≡ a ⊻ false
+pub xor_none : (a : Bool) → a ≡ a ⊻ false
 xor_none a = grind arith
 
 -- a word with one bit changed, among the others

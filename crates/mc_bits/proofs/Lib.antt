@@ -1,3 +1,4 @@
+pub mod BitsFrom
 pub mod BitsOfWords
 pub mod RowsByBits
 pub mod TwoRows

@@ -8,8 +8,9 @@ use Rattle.std.proofs.lemmas.List.FromFn.{get_or-map-range_with_len, length-map-
 use Rattle.std.proofs.lemmas.List.FromFn.{fill_by_all}
 use Rattle.std.proofs.Math.ListN.{length-set}
 use Rattle.mc_model.specs.Bits.{◌⊻◌}
-use Rattle.mc_bits.specs.Words.{word_bit}
+use Rattle.mc_bits.specs.Words.{word_bit, IsClearFrom}
 use Rattle.mc_bits.specs.Rows.{row_of, bit_of, flipped, row_sum}
+use Rattle.mc_bits.proofs.BitsFrom.{sides}
 
 pub row_of-length : (n : ℕ) (words : List ℕ) → length (row_of n words) ≡ n
 row_of-length n words = length-map-range_with_len (word_bit words) 0 n
@@ -27,6 +28,15 @@ row_by_bits row n words e h = sym (fill_by_all (word_bit words) row n false e h)
 -- behind a row's end each bit is 0
 pub past_end : (row : List Bool) (k : ℕ) → length row ≤ k → bit_of row k ≡ false
 past_end row k h = get_or_past row k false h
+
+-- where the words are 0 from the row's end on, each bit is theirs
+pub clear_bit : (n : ℕ) (words : List ℕ) → IsClearFrom n words → (k : ℕ) →
+    bit_of (row_of n words) k ≡ word_bit words k
+clear_bit n words clear k = elim (sides k n) [
+  | inl lt ↦ row_of-bit n words k lt
+  | inr ge ↦
+      past_end (row_of n words) k (omega (arith, row_of-length n words)) ∙ sym (clear k ge)
+]
 
 xor_false : (a : Bool) → a ⊻ false ≡ a
 xor_false a = grind arith

@@ -33,7 +33,10 @@ impl Rows {
         requires { bits ≤ 1024 }
         ensures { IfOk result (λ r. r ≡ replicate rows (replicate bits false)) }
     {
-        let mut made = Vec::new(alloc);
+        let mut made = match Vec::with_capacity(alloc, rows as usize) {
+            Ok(made) => made,
+            Err(_) => return Err(Memory),
+        };
         'rows: for count in 0..rows {
             match made.push(BitRow::new(bits)) {
                 Ok(()) => {}

@@ -17,8 +17,7 @@ use Rattle.mc_model.specs.Graph.{OpenGraph, size, is_input, is_output, odd_neigh
 use Rattle.mc_model.specs.Depth.{KeepsAbove, IsDepthBound}
 use Rattle.mc_model.proofs.DepthBounds.{bounds_hold}
 use Rattle.mc_model.proofs.NumberLists.{member_once}
-use Rattle.mc_cert.specs.declared.rows.LayerRow.{LayerRow}
-use Rattle.mc_cert.specs.declared.rows.BoundRow.{BoundRow}
+use Rattle.mc_cert.specs.BoundRecords.{LayerRow, BoundRow}
 use Rattle.mc_cert.specs.Rules.{least_broken, first_broken, before_first}
 use Rattle.mc_graph.specs.RowLists.{row_at, has_row, HaveOwnVertices}
 use Rattle.mc_cert.specs.BoundRules.{stated_in, is_for, keeping_in, AreBoundRows, layer_rules}
@@ -223,7 +222,7 @@ row_kept g d layers r e =
         even = λ w l free outside.
             even_of (is_input g w) (is_behind g layers r.k w)
             (odd_neighbourhood g (is_member r.set) w)
-            (not_number (odd_behind g layers r) (size g) k.1.1.1.1.0 w l) free
+            (not_number (odd_behind g layers r.k r.set) (size g) k.1.1.1.1.0 w l) free
             (behind_where g layers r.k w outside);
       };
     }
@@ -476,7 +475,7 @@ row_breaks_none g d layers rows a r fit e =
                 or_from (is_output g v) (nat_lt (stated_in layers v) r.k) parts.0
                 (le-ltb (stated_in layers v) r.k parts.1)),
             (
-              sym (no_number (odd_behind g layers r) (size g)
+              sym (no_number (odd_behind g layers r.k r.set) (size g)
                   (λ w i. even_unless (is_input g w) (is_behind g layers r.k w)
                   (odd_neighbourhood g (is_member r.set) w)
                   (λ free behind. c.even w i free (behind_by g layers r.k w behind)))),

@@ -7,7 +7,7 @@ use Rattle.std.specs.List.{AllByRecursion, IsDistinct}
 use Rattle.std.proofs.lemmas.Bool.{eq-eqb, ne_eqb, true≢false}
 use Rattle.std.proofs.lemmas.List.Elements.{All-from_recursion, recursion_from_All}
 use Rattle.mc_model.specs.Graph.{size}
-use Rattle.mc_cert.specs.declared.rows.BoundRow.{BoundRow}
+use Rattle.mc_cert.specs.BoundRecords.{BoundRow}
 use Rattle.mc_cert.specs.BoundRules.{is_for, AreApart}
 use Rattle.mc_cert.specs.Laws.{ShortBoundsAreFew}
 use Rattle.mc_cert.proofs.RowLemmas.{all_with}

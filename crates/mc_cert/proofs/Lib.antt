@@ -11,3 +11,4 @@ mod BoundLaw
 mod FewRows
 mod FewSets
 mod OwnBounds
+mod KeptRows

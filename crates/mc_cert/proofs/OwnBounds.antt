@@ -9,8 +9,7 @@ use Rattle.std.proofs.lemmas.Cmp.{nat_eq_equiv}
 use Rattle.std.proofs.lemmas.Map.Keys.{IsDistinct-push}
 use Rattle.std.proofs.lemmas.List.{map-append}
 use Rattle.mc_graph.specs.RowLists.{has_row}
-use Rattle.mc_cert.specs.declared.rows.LayerRow.{LayerRow}
-use Rattle.mc_cert.specs.declared.rows.BoundRow.{BoundRow}
+use Rattle.mc_cert.specs.BoundRecords.{LayerRow, BoundRow}
 use Rattle.mc_cert.specs.BoundRules.{is_for}
 use Rattle.mc_cert.specs.Bounds.{AreOwn}
 use Rattle.mc_cert.proofs.RowLemmas.{eqb_swap}

@@ -6,8 +6,7 @@ use Rattle.mc_model.specs.Numbers.{numbers_from, is_member, ListsOnce}
 use Rattle.mc_model.specs.Bits.{Bits}
 use Rattle.mc_model.specs.Graph.{OpenGraph, size, is_input, is_output, odd_neighbourhood}
 use Rattle.mc_model.specs.Depth.{IsDepthBound}
-use Rattle.mc_cert.specs.declared.rows.LayerRow.{LayerRow}
-use Rattle.mc_cert.specs.declared.rows.BoundRow.{BoundRow}
+use Rattle.mc_cert.specs.BoundRecords.{LayerRow, BoundRow}
 use Rattle.mc_cert.specs.Rules.{Rule, rule, before_first}
 use Rattle.mc_graph.specs.RowLists.{row_at, has_row, AreRowsOf}
 
@@ -49,9 +48,9 @@ all_layers_rules g depth layers =
 abbrev pub is_behind : OpenGraph → List LayerRow → ℕ → Bits
 is_behind g layers k v = is_output g v || nat_lt (stated_in layers v) k
 
-abbrev pub odd_behind : OpenGraph → List LayerRow → BoundRow → Bits
-odd_behind g layers r w =
-    not (is_input g w) && is_behind g layers r.k w && odd_neighbourhood g (is_member r.set) w
+abbrev pub odd_behind : OpenGraph → List LayerRow → ℕ → List ℕ → Bits
+odd_behind g layers k set w =
+    not (is_input g w) && is_behind g layers k w && odd_neighbourhood g (is_member set) w
 
 abbrev pub keeping_rules : OpenGraph → ℕ → List LayerRow → BoundRow → List Rule
 keeping_rules g depth layers r =
@@ -59,7 +58,7 @@ keeping_rules g depth layers r =
     ∷ rule 6 (is_output g r.vertex || nat_le (stated_in layers r.vertex) r.k)
     ∷ rule 7 (not (is_member r.set r.vertex))
     ∷ rule 8 (list_any (is_behind g layers r.k) r.set)
-    ∷ rule 9 (list_any (odd_behind g layers r) (numbers_from 0 (size g)))
+    ∷ rule 9 (list_any (odd_behind g layers r.k r.set) (numbers_from 0 (size g)))
     ∷ []
 
 -- whether a vertex has a layer above `k` and no row for it

@@ -2,8 +2,7 @@
 use Rattle.std.specs.Prelude.{ℕ, ◌+◌, ◌<◌, List, All, length}
 use Rattle.mc_model.specs.Graph.{OpenGraph, size}
 use Rattle.mc_graph.specs.RowLists.{HaveOwnVertices}
-use Rattle.mc_cert.specs.declared.rows.LayerRow.{LayerRow}
-use Rattle.mc_cert.specs.declared.rows.BoundRow.{BoundRow}
+use Rattle.mc_cert.specs.BoundRecords.{LayerRow, BoundRow}
 use Rattle.mc_cert.specs.BoundRules.{AreBoundRows, AreApart}
 
 -- a depth, layers of vertices, and sets that keep vertices from layers

@@ -6,8 +6,7 @@ use Rattle.mc_model.specs.Numbers.{is_member}
 use Rattle.mc_model.specs.Flow.{IsFlow, depth_of, IsStuckSet}
 use Rattle.mc_graph.specs.Flows.{FlowRows}
 use Rattle.mc_graph.specs.Refuters.{RefuterLine}
-use Rattle.mc_cert.specs.declared.rows.LayerRow.{LayerRow}
-use Rattle.mc_cert.specs.declared.rows.BoundRow.{BoundRow}
+use Rattle.mc_cert.specs.BoundRecords.{LayerRow, BoundRow}
 use Rattle.mc_cert.specs.Rules.{first_broken}
 use Rattle.mc_graph.specs.RowLists.{HaveOwnVertices}
 use Rattle.mc_graph.specs.Flows.{AreFlowLines, IsFlowOf}

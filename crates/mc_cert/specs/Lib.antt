@@ -3,5 +3,7 @@ pub mod FlowRules
 pub mod RefuterRules
 pub mod Laws
 pub mod StuckRules
+pub mod BoundRecords
 pub mod BoundRules
 pub mod Bounds
+pub mod Kept

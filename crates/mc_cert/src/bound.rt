@@ -4,10 +4,11 @@ ghost use Rattle.std.specs.Prelude.{◌≡◌, ◌<◌, ◌≤◌, ◌↔◌, �
 ghost use Rattle.std.specs.Prelude.{length};
 ghost use Rattle.std.specs.Prelude.{nat_eq, nat_le, nat_lt};
 ghost use Rattle.std.specs.List.{list_any};
-ghost use Rattle.mc_model.specs.Numbers.{numbers_from};
+ghost use Rattle.mc_model.specs.Numbers.{numbers_from, is_member};
 ghost use Rattle.mc_model.specs.Bits.{Bits};
-ghost use Rattle.mc_model.specs.Graph.{size, is_output};
+ghost use Rattle.mc_model.specs.Graph.{size, is_output, odd_neighbourhood};
 ghost use Rattle.mc_model.specs.Flow.{IsFlow, depth_of};
+ghost use Rattle.mc_bits.specs.Rows.{bit_of};
 ghost use Rattle.mc_cert.specs.Rules.{least_broken, first_broken, before_first, breach_of};
 ghost use Rattle.mc_cert.specs.BoundRules.{AreBoundRows, stated_in, layer_rules};
 ghost use Rattle.mc_cert.specs.BoundRules.{lacks_layer, has_layer, all_layers_rules, is_behind};
@@ -15,60 +16,66 @@ ghost use Rattle.mc_cert.specs.BoundRules.{odd_behind, keeping_rules, lacks_set,
 ghost use Rattle.mc_cert.specs.BoundRules.{bound_end_rules, keeping_lines, bound_lines, IsBoundOf};
 ghost use Rattle.mc_cert.specs.Bounds.{IsBoundIn};
 
-use crate::odd::is_odd;
-use crate::rows::{Bound, BoundRow, LayerRow, has_row, has_set};
+use crate::rows::Bound;
 use crate::verdict::Verdict;
+use mc_bits::BitRow;
 use mc_graph::OpenGraph;
+use mc_odd::odd_neighbours;
+use mc_signal::QSet;
 
-fn stated(layers: &[LayerRow], v: u16) -> u32
-    ensures { result ≡ stated_in layers.now v }
+/// Whether some vertex has the layer.
+fn has_layer(b: &Bound, depth: u32) -> bool
+    ensures { result ≡ has_layer b.now.layers depth }
 {
-    match layers.iter().find(|row| v == row.vertex) {
-        Some(row) => row.layer,
-        None => 0,
+    'layers: for i in 0..b.layers() {
+        let (_, layer) = b.layer_row(i);
+        if depth == layer {
+            return true;
+        }
     }
+    false
 }
 
-fn has_layer(layers: &[LayerRow], depth: u32) -> bool
-    ensures { result ≡ has_layer layers.now depth }
+fn has_bad_layer(depth: u32, layer: u32) -> bool
+    ensures { result ≡ (nat_eq layer 0 || nat_lt depth layer) }
 {
-    layers.iter().any(|row| depth == row.layer)
-}
-
-fn has_bad_layer(depth: u32, row: &LayerRow) -> bool
-    ensures { result ≡ (nat_eq row.now.layer 0 || nat_lt depth row.now.layer) }
-{
-    row.layer == 0 || depth < row.layer
+    layer == 0 || depth < layer
 }
 
 /// The least rule that a layer breaks.
-fn least_in_layer<const H: usize>(g: &OpenGraph<H>, depth: u32, row: &LayerRow) -> Option<u8>
-    requires { row.now.vertex < size g.now }
-    ensures { result ≡ least_broken (layer_rules g.now depth row.now) }
+fn least_in_layer<const H: usize>(
+    g: &OpenGraph<H>,
+    depth: u32,
+    vertex: u16,
+    layer: u32,
+) -> Option<u8>
+    requires { vertex < size g.now }
+    ensures { result ≡ least_broken
+        (layer_rules g.now depth (record { vertex = vertex; layer = layer })) }
 {
-    if g.is_output(row.vertex) {
+    if g.is_output(vertex) {
         Some(1)
-    } else if has_bad_layer(depth, row) {
+    } else if has_bad_layer(depth, layer) {
         Some(2)
     } else {
         None
     }
 }
 
-fn lacks_layer<const H: usize>(g: &OpenGraph<H>, layers: &[LayerRow], v: u16) -> bool
+fn lacks_layer<const H: usize>(g: &OpenGraph<H>, b: &Bound, v: u16) -> bool
     requires { v < size g.now }
-    ensures { result ≡ lacks_layer g.now layers.now v }
+    ensures { result ≡ lacks_layer g.now b.now.layers v }
 {
-    !g.is_output(v) && !has_row(layers, v)
+    !g.is_output(v) && !b.has_layer(v)
 }
 
 /// Whether a vertex that is no output has no layer.
-fn lacks_layers<const H: usize>(g: &OpenGraph<H>, layers: &[LayerRow]) -> bool
-    ensures { result ≡ list_any (lacks_layer g.now layers.now)
+fn lacks_layers<const H: usize>(g: &OpenGraph<H>, b: &Bound) -> bool
+    ensures { result ≡ list_any (lacks_layer g.now b.now.layers)
         (numbers_from 0 (size g.now)) }
 {
     'vertices: for v in 0..g.len() {
-        if lacks_layer(g, layers, v) {
+        if lacks_layer(g, b, v) {
             return true;
         }
     }
@@ -76,71 +83,78 @@ fn lacks_layers<const H: usize>(g: &OpenGraph<H>, layers: &[LayerRow]) -> bool
 }
 
 /// The least rule that all layers break together.
-fn least_of_layers<const H: usize>(g: &OpenGraph<H>, depth: u32, layers: &[LayerRow]) -> Option<u8>
-    ensures { result ≡ least_broken (all_layers_rules g.now depth layers.now) }
+fn least_of_layers<const H: usize>(g: &OpenGraph<H>, b: &Bound) -> Option<u8>
+    ensures { result ≡ least_broken (all_layers_rules g.now b.now.depth b.now.layers) }
 {
-    if lacks_layers(g, layers) {
+    let depth = b.depth();
+    if lacks_layers(g, b) {
         Some(3)
-    } else if depth != 0 && !has_layer(layers, depth) {
+    } else if depth != 0 && !has_layer(b, depth) {
         Some(4)
     } else {
         None
     }
 }
 
-fn is_behind<const H: usize>(g: &OpenGraph<H>, layers: &[LayerRow], k: u32, v: u16) -> bool
+fn is_behind<const H: usize>(g: &OpenGraph<H>, b: &Bound, k: u32, v: u16) -> bool
     requires { v < size g.now }
-    ensures { result ≡ is_behind g.now layers.now k v }
+    ensures { result ≡ is_behind g.now b.now.layers k v }
 {
-    g.is_output(v) || stated(layers, v) < k
+    g.is_output(v) || b.stated(v) < k
 }
 
-fn has_bad_k(depth: u32, row: &BoundRow) -> bool
-    ensures { result ≡ (nat_eq row.now.k 0 || nat_le depth row.now.k) }
+fn has_bad_k(depth: u32, k: u32) -> bool
+    ensures { result ≡ (nat_eq k 0 || nat_le depth k) }
 {
-    row.k == 0 || depth <= row.k
+    k == 0 || depth <= k
 }
 
-fn is_not_above<const H: usize>(g: &OpenGraph<H>, layers: &[LayerRow], row: &BoundRow) -> bool
-    requires { row.now.vertex < size g.now }
-    ensures { result ≡ (is_output g.now row.now.vertex
-        || nat_le (stated_in layers.now row.now.vertex) row.now.k) }
+fn is_not_above<const H: usize>(g: &OpenGraph<H>, b: &Bound, k: u32, vertex: u16) -> bool
+    requires { vertex < size g.now }
+    ensures { result ≡ (is_output g.now vertex || nat_le (stated_in b.now.layers vertex) k) }
 {
-    g.is_output(row.vertex) || stated(layers, row.vertex) <= row.k
+    g.is_output(vertex) || b.stated(vertex) <= k
 }
 
-/// Whether a member of the set is an output or of a layer below the row's.
-fn has_behind<const H: usize>(g: &OpenGraph<H>, layers: &[LayerRow], row: &BoundRow) -> bool
-    requires { All (λ k. k < size g.now) row.now.set }
-    ensures { result ≡ list_any (is_behind g.now layers.now row.now.k) row.now.set }
+/// Whether a member of the set is an output or of a layer below `k`.
+fn has_behind<const H: usize>(g: &OpenGraph<H>, b: &Bound, k: u32, set: &QSet) -> bool
+    requires { All (λ v. v < size g.now) set.now }
+    ensures { result ≡ list_any (is_behind g.now b.now.layers k) set.now }
 {
-    'members: for i in 0..row.set.len() {
-        if is_behind(g, layers, row.k, row.set.get(i)) {
+    'members: for i in 0..set.len() {
+        if is_behind(g, b, k, set.get(i)) {
             return true;
         }
     }
     false
 }
 
+/// Whether a vertex, no input, is behind the layer and has an odd number of neighbours in the set.
 fn is_odd_behind<const H: usize>(
     g: &OpenGraph<H>,
-    layers: &[LayerRow],
-    row: &BoundRow,
+    b: &Bound,
+    k: u32,
+    set: &QSet,
+    odd: &BitRow,
     w: u16,
 ) -> bool
-    requires { w < size g.now }
-    ensures { result ≡ odd_behind g.now layers.now row.now w }
+    requires vertex { w < size g.now }
+    requires bits { (v : ℕ) → v < size g.now →
+        bit_of odd.now v ≡ odd_neighbourhood g.now (is_member set.now) v }
+    requires length { length odd.now ≡ size g.now }
+    ensures { result ≡ odd_behind g.now b.now.layers k set.now w }
 {
-    w >= g.inputs() && is_behind(g, layers, row.k, w) && is_odd(g, &row.set, w)
+    odd.bit(w) && w >= g.inputs() && is_behind(g, b, k, w)
 }
 
-/// Whether a vertex behind the row's layer, no input, has an odd number of neighbours in the set.
-fn has_odd_behind<const H: usize>(g: &OpenGraph<H>, layers: &[LayerRow], row: &BoundRow) -> bool
-    ensures { result ≡ list_any (odd_behind g.now layers.now row.now)
+/// Whether a vertex behind the layer, no input, has an odd number of neighbours in the set.
+fn has_odd_behind<const H: usize>(g: &OpenGraph<H>, b: &Bound, k: u32, set: &QSet) -> bool
+    ensures { result ≡ list_any (odd_behind g.now b.now.layers k set.now)
         (numbers_from 0 (size g.now)) }
 {
+    let odd = odd_neighbours(g, set);
     'vertices: for v in 0..g.len() {
-        if is_odd_behind(g, layers, row, v) {
+        if is_odd_behind(g, b, k, set, &odd, v) {
             return true;
         }
     }
@@ -150,46 +164,43 @@ fn has_odd_behind<const H: usize>(g: &OpenGraph<H>, layers: &[LayerRow], row: &B
 /// The least rule that a row breaks.
 fn least_in_row<const H: usize>(
     g: &OpenGraph<H>,
-    depth: u32,
-    layers: &[LayerRow],
-    row: &BoundRow,
+    b: &Bound,
+    k: u32,
+    vertex: u16,
+    set: &QSet,
 ) -> Option<u8>
-    requires vertex { row.now.vertex < size g.now }
-    requires members { All (λ k. k < size g.now) row.now.set }
-    ensures { result ≡ least_broken (keeping_rules g.now depth layers.now row.now) }
+    requires vertex { vertex < size g.now }
+    requires members { All (λ v. v < size g.now) set.now }
+    ensures { result ≡ least_broken (keeping_rules g.now b.now.depth b.now.layers
+        (record { k = k; vertex = vertex; set = set.now })) }
 {
-    if has_bad_k(depth, row) {
+    if has_bad_k(b.depth(), k) {
         Some(5)
-    } else if is_not_above(g, layers, row) {
+    } else if is_not_above(g, b, k, vertex) {
         Some(6)
-    } else if !row.set.has(row.vertex) {
+    } else if !set.has(vertex) {
         Some(7)
-    } else if has_behind(g, layers, row) {
+    } else if has_behind(g, b, k, set) {
         Some(8)
-    } else if has_odd_behind(g, layers, row) {
+    } else if has_odd_behind(g, b, k, set) {
         Some(9)
     } else {
         None
     }
 }
 
-fn lacks_set(layers: &[LayerRow], rows: &[BoundRow], k: u32, u: u16) -> bool
-    ensures { result ≡ lacks_set layers.now rows.now k u }
+fn lacks_set(b: &Bound, k: u32, u: u16) -> bool
+    ensures { result ≡ lacks_set b.now.layers b.now.rows k u }
 {
-    k < stated(layers, u) && !has_set(rows, k, u)
+    k < b.stated(u) && !b.has(k, u)
 }
 
 /// Whether a vertex of a layer above `k` has no row for it.
-fn lacks_sets<const H: usize>(
-    g: &OpenGraph<H>,
-    layers: &[LayerRow],
-    rows: &[BoundRow],
-    k: u32,
-) -> bool
-    ensures { result ≡ lacks_sets g.now layers.now rows.now k }
+fn lacks_sets<const H: usize>(g: &OpenGraph<H>, b: &Bound, k: u32) -> bool
+    ensures { result ≡ lacks_sets g.now b.now.layers b.now.rows k }
 {
     'vertices: for u in 0..g.len() {
-        if lacks_set(layers, rows, k, u) {
+        if lacks_set(b, k, u) {
             return true;
         }
     }
@@ -197,17 +208,12 @@ fn lacks_sets<const H: usize>(
 }
 
 /// Whether a row lacks for some layer below the depth.
-fn lacks_rows<const H: usize>(
-    g: &OpenGraph<H>,
-    depth: u32,
-    layers: &[LayerRow],
-    rows: &[BoundRow],
-) -> bool
-    ensures { result ≡ list_any (lacks_sets g.now layers.now rows.now)
-        (numbers_from 1 (depth - 1)) }
+fn lacks_rows<const H: usize>(g: &OpenGraph<H>, b: &Bound) -> bool
+    ensures { result ≡ list_any (lacks_sets g.now b.now.layers b.now.rows)
+        (numbers_from 1 (b.now.depth - 1)) }
 {
-    'layers: for k in 1..depth {
-        if lacks_sets(g, layers, rows, k) {
+    'layers: for k in 1..b.depth() {
+        if lacks_sets(g, b, k) {
             return true;
         }
     }
@@ -215,90 +221,64 @@ fn lacks_rows<const H: usize>(
 }
 
 /// The rule that all rows break together.
-fn least_at_end<const H: usize>(
-    g: &OpenGraph<H>,
-    depth: u32,
-    layers: &[LayerRow],
-    rows: &[BoundRow],
-) -> Option<u8>
-    ensures { result ≡ least_broken (bound_end_rules g.now depth layers.now rows.now) }
+fn least_at_end<const H: usize>(g: &OpenGraph<H>, b: &Bound) -> Option<u8>
+    ensures { result ≡
+        least_broken (bound_end_rules g.now b.now.depth b.now.layers b.now.rows) }
 {
-    if lacks_rows(g, depth, layers, rows) {
-        Some(10)
-    } else {
-        None
-    }
+    if lacks_rows(g, b) { Some(10) } else { None }
 }
 
 /// What the rows break, the first of which has the number `first`.
-fn check_rows<const H: usize>(
-    g: &OpenGraph<H>,
-    depth: u32,
-    layers: &[LayerRow],
-    rows: &[BoundRow],
-    first: u32,
-) -> Verdict
-    requires rows { AreBoundRows g.now rows.now }
-    requires few { length rows.now + first < 4294967296 }
+fn check_rows<const H: usize>(g: &OpenGraph<H>, b: &Bound, first: u32) -> Verdict
+    requires rows { AreBoundRows g.now b.now.rows }
+    requires few { length b.now.rows + first < 4294967296 }
     ensures { breach_of result ≡
-        first_broken first (keeping_lines g.now depth layers.now rows.now) }
+        first_broken first (keeping_lines g.now b.now.depth b.now.layers b.now.rows) }
 {
-    'rows: for i in 0..rows.len() {
-        if let Some(rule) = least_in_row(g, depth, layers, &rows[i]) {
+    'rows: for i in 0..b.len() {
+        let (k, vertex, set) = b.row(i);
+        if let Some(rule) = least_in_row(g, b, k, vertex, set) {
             return Verdict::No {
                 row: i as u32 + first,
                 rule,
             };
         }
     }
-    Verdict::of(
-        rows.len() as u32 + first,
-        least_at_end(g, depth, layers, rows),
-    )
+    Verdict::of(b.len() as u32 + first, least_at_end(g, b))
 }
 
 /// What the layers break together, and then the rows.
-fn check_behind<const H: usize>(
-    g: &OpenGraph<H>,
-    depth: u32,
-    layers: &[LayerRow],
-    rows: &[BoundRow],
-    first: u32,
-) -> Verdict
-    requires rows { AreBoundRows g.now rows.now }
-    requires few { length rows.now + first < 4294967296 }
+fn check_behind<const H: usize>(g: &OpenGraph<H>, b: &Bound, first: u32) -> Verdict
+    requires rows { AreBoundRows g.now b.now.rows }
+    requires few { length b.now.rows + first < 4294967296 }
     ensures { breach_of result ≡
-        first_broken first (before_first (all_layers_rules g.now depth layers.now)
-        (keeping_lines g.now depth layers.now rows.now)) }
+        first_broken first (before_first (all_layers_rules g.now b.now.depth b.now.layers)
+        (keeping_lines g.now b.now.depth b.now.layers b.now.rows)) }
 {
-    if let Some(rule) = least_of_layers(g, depth, layers) {
+    if let Some(rule) = least_of_layers(g, b) {
         return Verdict::No { row: first, rule };
     }
-    check_rows(g, depth, layers, rows, first)
+    check_rows(g, b, first)
 }
 
 /// What the rows break.
-fn judged<const H: usize>(
-    g: &OpenGraph<H>,
-    depth: u32,
-    layers: &[LayerRow],
-    rows: &[BoundRow],
-) -> Verdict
-    requires layers { All (λ r. r.vertex < size g.now) layers.now }
-    requires rows { AreBoundRows g.now rows.now }
-    requires few { length layers.now + length rows.now < 4294967295 }
+fn judged<const H: usize>(g: &OpenGraph<H>, b: &Bound) -> Verdict
+    requires layers { All (λ r. r.vertex < size g.now) b.now.layers }
+    requires rows { AreBoundRows g.now b.now.rows }
+    requires few { length b.now.layers + length b.now.rows < 4294967295 }
     ensures { breach_of result ≡
-        first_broken 1 (bound_lines g.now depth layers.now rows.now) }
+        first_broken 1 (bound_lines g.now b.now.depth b.now.layers b.now.rows) }
 {
-    'layers: for i in 0..layers.len() {
-        if let Some(rule) = least_in_layer(g, depth, &layers[i]) {
+    'layers: for i in 0..b.layers() {
+        let (vertex, layer) = b.layer_row(i);
+        if let Some(rule) = least_in_layer(g, b.depth(), vertex, layer) {
             return Verdict::No {
                 row: i as u32 + 1,
                 rule,
             };
         }
     }
-    check_behind(g, depth, layers, rows, layers.len() as u32 + 1)
+    check_behind(g, b, b.layers() as u32 + 1)
 }
 
 /// Whether the rows are a bound of the stated depth, below which then no flow of the graph has its own. It takes no memory.
@@ -311,5 +291,7 @@ pub fn check_bound<const H: usize>(g: &OpenGraph<H>, b: &Bound) -> Verdict
     ensures flows { (breach_of result ≡ None) → (sets : ℕ → Bits) (layer : ℕ → ℕ) →
         IsFlow g.now sets layer → b.now.depth ≤ depth_of g.now layer }
 {
-    judged(g, b.depth(), b.layer_rows(), b.set_rows())
+    // the proof needs that no vertex has two layers, nor two sets for a layer
+    let _counts = (b.layers(), b.len());
+    judged(g, b)
 }

@@ -17,6 +17,6 @@ pub use laws::{
     short_bounds_are_few, stuck_rules_are_exact,
 };
 pub use refuter::check_refuter;
-pub use rows::{Bound, BoundRow, LayerRow};
+pub use rows::Bound;
 pub use stuck::check_stuck;
 pub use verdict::Verdict;

@@ -3,28 +3,20 @@
 ghost use Rattle.std.specs.Prelude.{◌≡◌, ◌↔◌, ◌<◌, [], ◌∷◌, ◌++◌, true, false, length, Err, Some};
 ghost use Rattle.std.specs.Prelude.{slice_get, OnOk, OnErr};
 ghost use Rattle.std.specs.List.{list_any};
-ghost use Rattle.mc_graph.specs.RowLists.{has_row as has_line, HaveOwnVertices};
-ghost use Rattle.mc_cert.specs.BoundRules.{is_for, AreApart};
-ghost use Rattle.mc_cert.specs.Bounds.{BoundRows};
+ghost use Rattle.mc_graph.specs.RowLists.{has_row, HaveOwnVertices};
+ghost use Rattle.mc_cert.specs.BoundRules.{is_for, stated_in, AreApart};
 
+use indexmap::IndexMap;
 use mc_graph::RowEnd;
 use mc_signal::QSet;
 use std::alloc::Global;
 use std::marker::Model;
 
-/// The layer of a vertex in a bound of depth.
-#[derive(Drop)]
-pub struct LayerRow {
-    pub vertex: u16,
-    pub layer: u32,
-}
-
-/// A row of a bound of depth: a vertex, and the set that keeps it from the layer `k`.
-#[derive(Drop)]
-pub struct BoundRow {
-    pub k: u32,
-    pub vertex: u16,
-    pub set: QSet,
+/// What a set of a bound is for: a vertex, and a layer that the set keeps it from.
+#[derive(Clone, Copy, PartialEq, Eq, Hash)]
+struct Target {
+    k: u32,
+    vertex: u16,
 }
 
 /// A lower bound of the depth of every flow: a depth, at most one layer for each vertex, and at most one set for each layer
@@ -32,31 +24,24 @@ pub struct BoundRow {
 #[derive(Drop)]
 pub struct Bound {
     depth: u32,
-    layers: Vec<LayerRow>,
-    rows: Vec<BoundRow>,
+    layers: IndexMap<u16, u32>,
+    sets: IndexMap<Target, QSet>,
 }
 
 impl Model for Bound {
-    ghost use Rattle.mc_graph.specs.RowLists.{HaveOwnVertices};
+    ghost use Rattle.std.specs.Prelude.{map};
+    ghost use Rattle.mc_cert.specs.Kept.{layer_row, set_row};
     ghost use Rattle.mc_cert.specs.Bounds.{BoundRows, AreOwn};
 
     ghost Value = { BoundRows };
 
-    ghost view = { λ b. record { depth = b.depth; layers = b.layers.items; rows = b.rows.items } };
+    ghost view = { λ b. record {
+      depth = b.depth;
+      layers = map layer_row b.layers.entries;
+      rows = map set_row b.sets.entries;
+    } };
 
-    ghost invariant = { λ b. AreOwn b.layers.items b.rows.items };
-}
-
-pub(crate) fn has_row(layers: &[LayerRow], v: u16) -> bool
-    ensures { result ≡ has_line (λ r. r.vertex) layers.now v }
-{
-    layers.iter().any(|row| v == row.vertex)
-}
-
-pub(crate) fn has_set(rows: &[BoundRow], k: u32, u: u16) -> bool
-    ensures { result ≡ list_any (is_for k u) rows.now }
-{
-    rows.iter().any(|row| k == row.k && u == row.vertex)
+    ghost invariant = { λ b. AreOwn (map layer_row b.layers.entries) (map set_row b.sets.entries) };
 }
 
 impl Bound {
@@ -66,23 +51,33 @@ impl Bound {
     {
         Bound {
             depth,
-            layers: Vec::new(alloc),
-            rows: Vec::new(alloc),
+            layers: IndexMap::new(alloc),
+            sets: IndexMap::new(alloc),
         }
     }
 
     /// Whether a vertex has a layer.
     pub fn has_layer(&self, vertex: u16) -> bool
-        ensures { result ≡ has_line (λ r. r.vertex) self.now.layers vertex }
+        ensures { result ≡ has_row (λ r. r.vertex) self.now.layers vertex }
     {
-        has_row(&self.layers, vertex)
+        self.layers.contains_key(&vertex)
     }
 
     /// Whether a vertex has a set for a layer.
     pub fn has(&self, k: u32, vertex: u16) -> bool
         ensures { result ≡ list_any (is_for k vertex) self.now.rows }
     {
-        has_set(&self.rows, k, vertex)
+        self.sets.contains_key(&Target { k, vertex })
+    }
+
+    /// The layer of a vertex; 0 where none is stated.
+    pub(crate) fn stated(&self, vertex: u16) -> u32
+        ensures { result ≡ stated_in self.now.layers vertex }
+    {
+        match self.layers.get(&vertex) {
+            Some(layer) => *layer,
+            None => 0,
+        }
     }
 
     /// Adds the layer of a vertex, which goes last. `Second` comes exactly where the vertex has a layer. A refusal changes
@@ -91,15 +86,15 @@ impl Bound {
         ensures ok { OnOk result (self.new ≡ record self.old {
           layers = self.old.layers ++ record { vertex = vertex; layer = layer } ∷ [];
         }) }
-        ensures new { OnOk result (has_line (λ r. r.vertex) self.old.layers vertex ≡ false) }
+        ensures new { OnOk result (has_row (λ r. r.vertex) self.old.layers vertex ≡ false) }
         ensures second { (result ≡ Err RowEnd.Second) ↔
-            (has_line (λ r. r.vertex) self.old.layers vertex ≡ true) }
+            (has_row (λ r. r.vertex) self.old.layers vertex ≡ true) }
         ensures err { OnErr result (self.new ≡ self.old) }
     {
         if self.has_layer(vertex) {
             return Err(RowEnd::Second);
         }
-        let Ok(()) = self.layers.push(LayerRow { vertex, layer }) else {
+        let Ok(_) = self.layers.insert(vertex, layer) else {
             return Err(RowEnd::Memory);
         };
         Ok(())
@@ -119,7 +114,7 @@ impl Bound {
         if self.has(k, vertex) {
             return Err(RowEnd::Second);
         }
-        let Ok(()) = self.rows.push(BoundRow { k, vertex, set }) else {
+        let Ok(_) = self.sets.insert(Target { k, vertex }, set) else {
             return Err(RowEnd::Memory);
         };
         Ok(())
@@ -145,7 +140,7 @@ impl Bound {
         ensures len { result ≡ length self.now.rows }
         ensures apart { AreApart self.now.rows }
     {
-        self.rows.len()
+        self.sets.len()
     }
 
     /// A vertex and its layer, at a place.
@@ -154,8 +149,8 @@ impl Bound {
         ensures { slice_get self.now.layers i ≡
             Some (record { vertex = result.0; layer = result.1 }) }
     {
-        let row = &self.layers[i];
-        (row.vertex, row.layer)
+        let (vertex, layer) = self.layers.get_index(i).unwrap();
+        (*vertex, *layer)
     }
 
     /// A layer, a vertex, and the set that keeps the vertex from the layer, at a place.
@@ -164,23 +159,7 @@ impl Bound {
         ensures { slice_get self.now.rows i ≡
             Some (record { k = result.0; vertex = result.1; set = result.2.now }) }
     {
-        let row = &self.rows[i];
-        (row.k, row.vertex, &row.set)
-    }
-
-    /// All layers.
-    pub(crate) fn layer_rows(&self) -> &[LayerRow]
-        ensures layers { result.now ≡ self.now.layers }
-        ensures own { HaveOwnVertices (λ r. r.vertex) self.now.layers }
-    {
-        &self.layers
-    }
-
-    /// All sets.
-    pub(crate) fn set_rows(&self) -> &[BoundRow]
-        ensures rows { result.now ≡ self.now.rows }
-        ensures apart { AreApart self.now.rows }
-    {
-        &self.rows
+        let (target, set) = self.sets.get_index(i).unwrap();
+        (target.k, target.vertex, set)
     }
 }

@@ -20,8 +20,7 @@ use Rattle.mc_lex.specs.declared.kind.Kind.{Kind}
 use Rattle.mc_lex.specs.declared.kind.Kind.TheVariants.{Circuit, Pattern, Graph, Change, Flow}
 use Rattle.mc_lex.specs.declared.kind.Kind.TheVariants.{NoFlow, NoCausal, Trace, Least, Gates}
 use Rattle.mc_graph.specs.RowLists.{AreRowsOf}
-use Rattle.mc_cert.specs.declared.rows.LayerRow.{LayerRow}
-use Rattle.mc_cert.specs.declared.rows.BoundRow.{BoundRow}
+use Rattle.mc_cert.specs.BoundRecords.{LayerRow, BoundRow}
 use Rattle.mc_cert.specs.Bounds.{AreOwn}
 use Rattle.mc_cert.specs.Laws.{ShortBoundsAreFew}
 use Rattle.mc_cert_text.specs.Certs.{PlainCert, IsCertOf, HasApartRows, flow, noflow, nocausal}

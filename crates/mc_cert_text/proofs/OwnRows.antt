@@ -4,7 +4,7 @@ use Rattle.std.proofs.Common.{None, nat_eq, arith}
 use Rattle.std.specs.List.{list_any, IsDistinct, AllByRecursion}
 use Rattle.std.proofs.lemmas.Bool.Decides.{nat_tests}
 use Rattle.mc_graph.specs.RowLists.{has_row, HaveOwnVertices}
-use Rattle.mc_cert.specs.declared.rows.BoundRow.{BoundRow}
+use Rattle.mc_cert.specs.BoundRecords.{BoundRow}
 use Rattle.mc_cert.specs.BoundRules.{is_for, AreApart}
 use Rattle.mc_text.specs.declared.fault.Fault.TheVariants.{RowTwice}
 use Rattle.mc_text.specs.Rules.{broken}

@@ -8,8 +8,7 @@ use Rattle.mc_model.specs.Names.{Name}
 use Rattle.mc_model.specs.Signals.{IsRising}
 use Rattle.mc_model.specs.Graph.{OpenGraph}
 use Rattle.mc_graph.specs.RowLists.{AreRowsOf, HaveOwnVertices}
-use Rattle.mc_cert.specs.declared.rows.LayerRow.{LayerRow}
-use Rattle.mc_cert.specs.declared.rows.BoundRow.{BoundRow}
+use Rattle.mc_cert.specs.BoundRecords.{LayerRow, BoundRow}
 use Rattle.mc_cert.specs.BoundRules.{AreApart}
 use Rattle.mc_cert.specs.Bounds.{BoundRows, AreOwn, IsBoundIn}
 use Rattle.mc_text.specs.declared.head.Head.{Head}

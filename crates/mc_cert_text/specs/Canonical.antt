@@ -4,8 +4,7 @@ use Rattle.mc_lex.specs.Kinds.{spelling}
 use Rattle.mc_model.specs.Names.{Name}
 use Rattle.mc_graph.specs.Flows.{FlowLine}
 use Rattle.mc_graph.specs.Refuters.{RefuterLine}
-use Rattle.mc_cert.specs.declared.rows.LayerRow.{LayerRow}
-use Rattle.mc_cert.specs.declared.rows.BoundRow.{BoundRow}
+use Rattle.mc_cert.specs.BoundRecords.{LayerRow, BoundRow}
 use Rattle.mc_text.specs.declared.head.Head.TheVariants.{Depth, G, Y, B, L}
 use Rattle.mc_text.specs.Judged.{Words, Lines}
 use Rattle.mc_write.specs.Text.{text_of}

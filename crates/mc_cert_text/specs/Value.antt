@@ -4,8 +4,7 @@ use Rattle.mc_lex.specs.declared.kind.Kind.{Kind}
 use Rattle.mc_lex.specs.declared.kind.Kind.TheVariants.{Flow, NoFlow, Least}
 use Rattle.mc_graph.specs.Flows.{FlowLine, FlowRows}
 use Rattle.mc_graph.specs.Refuters.{RefuterLine}
-use Rattle.mc_cert.specs.declared.rows.LayerRow.{LayerRow}
-use Rattle.mc_cert.specs.declared.rows.BoundRow.{BoundRow}
+use Rattle.mc_cert.specs.BoundRecords.{LayerRow, BoundRow}
 use Rattle.mc_cert.specs.Bounds.{BoundRows}
 use Rattle.mc_rows.specs.declared.row.Row.{Row}
 use Rattle.mc_cert_text.specs.Certs.{PlainCert, flow, noflow, nocausal, least}

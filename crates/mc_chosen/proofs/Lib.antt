@@ -5,3 +5,5 @@ pub mod Search
 pub mod FlowLists
 pub mod Chosen
 pub mod CausalChosen
+pub mod ListedRows
+pub mod BoundLists

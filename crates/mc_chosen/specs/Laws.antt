@@ -1,5 +1,5 @@
 -- Every graph has a chosen flow or a chosen refuter, and a chosen causal flow or a chosen stuck
--- set.
+-- set; a chosen flow has a chosen bound of depth.
 use Rattle.std.specs.Prelude.{◌⊎◌, ◌<◌, ℕ, List, All}
 use Rattle.mc_model.specs.Numbers.{is_member}
 use Rattle.mc_model.specs.Signals.{IsRising}
@@ -10,6 +10,8 @@ use Rattle.mc_graph.specs.Flows.{FlowRows, IsChosenFlowOf, IsChosenCausalFlowOf}
 use Rattle.mc_graph.specs.Refuters.{RefuterLine, IsChosenRefuterOf}
 use Rattle.mc_gflow.specs.Answers.{HasNoFlow}
 use Rattle.mc_extract.specs.Answers.{HasNoCausalFlow}
+use Rattle.mc_cert.specs.Bounds.{BoundRows}
+use Rattle.mc_least.specs.Chosen.{IsChosenBoundOf}
 
 -- the rows of the chosen flow, one for a vertex, each set rising
 pub record HasChosenFlow (g : OpenGraph) : Type 0 where
@@ -42,3 +44,11 @@ pub record HasChosenStuckSet (g : OpenGraph) : Type 0 where
 
 abbrev pub CausalFlowsOrStuckSetsExist : Type 0
 CausalFlowsOrStuckSetsExist = (g : OpenGraph) → HasChosenCausalFlow g ⊎ HasChosenStuckSet g
+
+-- the rows of the bound of depth that is chosen for a flow
+pub record HasChosenBound (g : OpenGraph) (f : FlowRows) : Type 0 where
+  pub rows : BoundRows
+  pub chosen : IsChosenBoundOf g f rows
+
+abbrev pub ChosenFlowsHaveBounds : Type 0
+ChosenFlowsHaveBounds = (g : OpenGraph) (f : FlowRows) → IsChosenFlowOf g f → HasChosenBound g f

@@ -22,8 +22,7 @@ use Rattle.mc_graph.specs.Flows.{FlowLine}
 use Rattle.mc_graph.specs.Refuters.{RefuterLine}
 use Rattle.mc_graph.specs.RowLists.{has_row, HaveOwnVertices}
 use Rattle.mc_graph.proofs.OwnVertices.{no_vertices, own_more}
-use Rattle.mc_cert.specs.declared.rows.LayerRow.{LayerRow}
-use Rattle.mc_cert.specs.declared.rows.BoundRow.{BoundRow}
+use Rattle.mc_cert.specs.BoundRecords.{LayerRow, BoundRow}
 use Rattle.mc_cert.specs.BoundRules.{is_for, AreApart}
 use Rattle.mc_cert.specs.Bounds.{AreOwn}
 use Rattle.mc_cert.specs.Laws.{ShortBoundsAreFew}

@@ -4,10 +4,11 @@ use Rattle.std.proofs.Common.{arith, sym, ap, subst, ◌∙◌, inl, inr, length
 use mathlib.Core.Path.{fun_ext}
 use Rattle.mc_model.specs.Bits.{Bits}
 use Rattle.mc_model.specs.Flow.{single}
+use Rattle.mc_bits.specs.Words.{IsNextBit, HasNoBit}
 use Rattle.mc_bits.specs.Rows.{bit_of}
 use Rattle.mc_elim.specs.Systems.{Columns, Solves, Refutes, IsLeast}
 use Rattle.mc_elim.specs.Reduced.{Reduced, AreApart, null_set}
-use Rattle.mc_elim.specs.Tables.{row_at, entry, IsNextBit, HasNoBit}
+use Rattle.mc_elim.specs.Tables.{entry}
 use Rattle.mc_elim.specs.Basis.{Inserted, HoldsBasis, IsLeastSolution, HasSolution, HasNoSolution}
 use Rattle.mc_elim.specs.Basis.{IsLeastRefuter, HasNoRefuter, HasOneColumn}
 use Rattle.mc_elim.proofs.LeastSets.{refuted}
@@ -26,8 +27,8 @@ firsts_apart n m k columns p b q h = record {
       (sym (h.own i j l g) ∙ ap (b i) (sym e) ∙ h.own i i l l ∙ single_itself i);
 }
 
-module _ (n room m k : ℕ) (vectors columns : List (List Bool)) (firsts : List ℕ)
-    (has_added : Bool) (h : HoldsBasis n room m k vectors columns firsts has_added) where
+module _ (n room m k : ℕ) (vectors columns : List (List Bool)) (firsts numbers : List ℕ)
+    (has_added : Bool) (h : HoldsBasis n room m k vectors columns firsts numbers has_added) where
   abbrev pub seen : Inserted
   seen = record {
     rows = n;
@@ -78,7 +79,7 @@ module _ (n room m k : ℕ) (vectors columns : List (List Bool)) (firsts : List 
     module _ (i : ℕ) (l : i < k) (first : p i ≡ u) where
       -- that holds another row
 
-      module _ (f : ℕ) (next : IsNextBit (row_at vectors i) (u + 1) n f) where
+      module _ (f : ℕ) (next : IsNextBit (entry vectors i) (u + 1) n f) where
         pub next_no_solution : HasNoSolution seen u
         next_no_solution s g =
             solved_first n m k c p (entry vectors) q h.reduced s u within
@@ -110,7 +111,7 @@ module _ (n room m k : ℕ) (vectors columns : List (List Bool)) (firsts : List 
 
       -- that holds no other row
 
-      module _ (alone : HasNoBit (row_at vectors i) (u + 1) n) where
+      module _ (alone : HasNoBit (entry vectors i) (u + 1) n) where
         whole : (r : ℕ) → r < n → entry vectors i r ≡ single (p i) r
         whole r x = elim (same_or_not r (p i)) [
           | inl e ↦

@@ -14,25 +14,28 @@ use Rattle.mc_model.proofs.OddSums.{odd-same}
 use Rattle.mc_bits.specs.Rows.{bit_of}
 use Rattle.mc_bits.proofs.RowsByBits.{past_end}
 use Rattle.mc_elim.specs.Systems.{Columns, HasSum, IsDependent}
-use Rattle.mc_elim.specs.Reduced.{Reduced, rest, rest_members, Joins}
+use Rattle.mc_elim.specs.Reduced.{Reduced, IsNumberedBy, rest, rest_members, Joins}
 use Rattle.mc_elim.specs.Tables.{row_at, entry, LeavesNothing, BecomesVector}
 use Rattle.mc_elim.specs.Basis.{HoldsBasis, IsSumOfInserted}
 use Rattle.mc_elim.proofs.AlikeBases.{sum_alike, reduced_alike, rest_alike}
-use Rattle.mc_elim.proofs.BasisAnswers.{seen}
+use Rattle.mc_elim.proofs.BasisAnswers.{firsts_apart, seen}
 use Rattle.mc_elim.proofs.ReducedGrows.{nothing_left, passed_over, new_independent, joined}
 use Rattle.mc_elim.proofs.BitSums.{xor_none, single_other, single_itself, last_or_before}
 use Rattle.mc_elim.proofs.BitSums.{same_or_not, not_true}
 
 -- what one insertion did to the rows: `mark` is the column with the bit of its number behind it
-pub record Step (n room m k : ℕ) (vectors vectors' : List (List Bool)) (firsts firsts' : List ℕ)
-    (column : List Bool) (joins : Bool) (counted : ℕ) : Type 0 where
+pub record Step (n room m k : ℕ) (vectors vectors' : List (List Bool))
+    (firsts firsts' numbers numbers' : List ℕ) (column : List Bool) (joins : Bool) (counted : ℕ) :
+    Type 0 where
   pub mark : List Bool
   pub mark_bits : (r : ℕ) → bit_of mark r ≡ bit_of column r ⊻ nat_eq r (n + m)
   pub mark_length : length mark ≡ n + room
   pub nothing : joins ≡ false →
       LeavesNothing n k firsts (slice_set vectors k mark) vectors' × (firsts' ≡ firsts)
+      × (numbers' ≡ numbers)
   pub vector : joins ≡ true →
       BecomesVector n k firsts firsts' (slice_set vectors k mark) vectors' × (k < n)
+      × (numbers' ≡ slice_set numbers (slice_index firsts' k) k)
   pub same : counted ≡ 0 → vectors' ≡ slice_set vectors k mark
   pub count : length vectors' ≡ length (slice_set vectors k mark)
   pub width : (i : ℕ) → length (row_at vectors' i) ≡ length (row_at (slice_set vectors k mark) i)
@@ -50,9 +53,9 @@ columns_more columns m column l =
     ∙ ap₂ (λ (xs : List (List Bool)) (x : List Bool). xs ++ (x ∷ [])) (take-set columns m column)
     (get_or-set_same columns m column [] l)
 
-module _ (n room m k : ℕ) (vectors columns : List (List Bool)) (firsts : List ℕ) (has_added : Bool)
-    (h : HoldsBasis n room m k vectors columns firsts has_added) (column : List Bool)
-    (width : length column ≡ n) (free : m < room) where
+module _ (n room m k : ℕ) (vectors columns : List (List Bool)) (firsts numbers : List ℕ)
+    (has_added : Bool) (h : HoldsBasis n room m k vectors columns firsts numbers has_added)
+    (column : List Bool) (width : length column ≡ n) (free : m < room) where
   abbrev before : Columns
   before = entry (take m columns)
 
@@ -70,8 +73,9 @@ module _ (n room m k : ℕ) (vectors columns : List (List Bool)) (firsts : List 
   newest : after m ≡ bit_of column
   newest = ap bit_of (get_or_push (take m columns) column [] m taken)
 
-  module _ (vectors' : List (List Bool)) (firsts' : List ℕ) (joins : Bool) (counted : ℕ)
-      (s : Step n room m k vectors vectors' firsts firsts' column joins counted) where
+  module _ (vectors' : List (List Bool)) (firsts' numbers' : List ℕ) (joins : Bool) (counted : ℕ)
+      (s : Step n room m k vectors vectors' firsts firsts' numbers numbers' column joins
+      counted) where
     abbrev p : ℕ → ℕ
     p = slice_index firsts
 
@@ -165,6 +169,11 @@ module _ (n room m k : ℕ) (vectors columns : List (List Bool)) (firsts : List 
           (passed_over n m k after p (entry marked) (λ i j. entry marked i (n + j)) marked_basis
           none)
 
+      still_numbered : IsNumberedBy k (slice_index firsts') (slice_index numbers')
+      still_numbered i l =
+          ap₂ (λ (f g : List ℕ). slice_index g (slice_index f i)) (s.nothing e).1 (s.nothing e).2
+          ∙ h.numbered i l
+
       -- where nothing was counted, the column is all 0
       pub all_zero_column : counted ≡ 0 → (r : ℕ) → bit_of column r ≡ false
       all_zero_column z r = elim (sides r) [
@@ -223,6 +232,28 @@ module _ (n room m k : ℕ) (vectors columns : List (List Bool)) (firsts : List 
           found.t found.inside has lowest (slice_index firsts') (entry vectors')
           (λ i j. entry vectors' i (n + j)) joining
 
+      -- the new first row is none of those before
+      numbered_more : IsNumberedBy (suc k) (slice_index firsts') (slice_index numbers')
+      numbered_more i l =
+          let t = slice_index firsts' k in
+          let apart = firsts_apart n (suc m) (suc k) after (slice_index firsts') (entry vectors')
+          (λ i j. entry vectors' i (n + j)) joined_basis in
+          let t_is = found.firsts_new in
+          let inside = found.inside in
+          let count = h.numbers_count in
+          ap (λ (g : List ℕ). slice_index g (slice_index firsts' i)) (s.vector e).2
+          ∙ elim (last_or_before i k l) [
+            | inl lt ↦
+                get_or-set_other numbers t (slice_index firsts' i) k 0 (λ f.
+                let same : i ≡ k = apart.apart i k l (omega arith) f in absurd (omega arith))
+                ∙ ap (slice_index numbers) (found.firsts_old i lt)
+                ∙ h.numbered i lt
+            | inr eq ↦
+                ap (λ (a : ℕ). slice_index (slice_set numbers t k) (slice_index firsts' a)) eq
+                ∙ get_or-set_same numbers t k 0 (omega arith)
+                ∙ sym eq
+          ]
+
     -- ---- what holds of both
 
     vectors_count' : length vectors' ≡ n + 1
@@ -263,7 +294,8 @@ module _ (n room m k : ℕ) (vectors columns : List (List Bool)) (firsts : List 
     ]
 
     module _ (columns' : List (List Bool)) (cs : columns' ≡ slice_set columns m column)
-        (firsts_count : length firsts' ≡ length firsts) (has_added' : Bool)
+        (firsts_count : length firsts' ≡ length firsts)
+        (numbers_count : length numbers' ≡ length numbers) (has_added' : Bool)
         (unadded : has_added' ≡ false → (has_added ≡ false) × (counted ≡ 0)) where
       columns_now : take (m + 1) columns' ≡ take m columns ++ (column ∷ [])
       columns_now =
@@ -285,9 +317,10 @@ module _ (n room m k : ℕ) (vectors columns : List (List Bool)) (firsts : List 
           ]
 
       holds : (k' : ℕ) → k' ≤ n → k' ≤ suc k → Reduced n (suc m) k' after (slice_index firsts')
-          (entry vectors') (λ i j. entry vectors' i (n + j)) → HoldsBasis n room (m + 1) k'
-          vectors' columns' firsts' has_added'
-      holds k' few low basis = record {
+          (entry vectors') (λ i j. entry vectors' i (n + j)) →
+          IsNumberedBy k' (slice_index firsts') (slice_index numbers') → HoldsBasis n room (m + 1)
+          k' vectors' columns' firsts' numbers' has_added'
+      holds k' few low basis numbered = record {
         small = h.small;
         within = (omega arith, few);
         vectors_count = vectors_count';
@@ -297,6 +330,8 @@ module _ (n room m k : ℕ) (vectors columns : List (List Bool)) (firsts : List 
             ∙ length-set columns m column ∙ h.columns_count;
         columns_width = columns_width';
         firsts_count = firsts_count ∙ h.firsts_count;
+        numbers_count = numbers_count ∙ h.numbers_count;
+        numbered = numbered;
         reduced =
             let next : suc m ≡ m + 1 = omega arith in
             subst (λ (rows : List (List Bool)). Reduced n (m + 1) k' (entry rows)
@@ -311,25 +346,28 @@ module _ (n room m k : ℕ) (vectors columns : List (List Bool)) (firsts : List 
       }
 
       pub basis_more : HoldsBasis n room (m + 1) (k + cond joins 1 0) vectors' columns' firsts'
-          has_added'
+          numbers' has_added'
       basis_more = by joins refl
         where
           by : (b : Bool) → joins ≡ b →
-              HoldsBasis n room (m + 1) (k + cond joins 1 0) vectors' columns' firsts' has_added'
+              HoldsBasis n room (m + 1) (k + cond joins 1 0) vectors' columns' firsts' numbers'
+              has_added'
           by true e =
               let more : suc k ≡ k + cond joins 1 0 =
               let f : suc k ≡ k + 1 = omega arith in
               f ∙ ap (λ (b : Bool). k + cond b 1 0) (sym e) in
               let few : k < n = (s.vector e).1 in
-              subst (λ (a : ℕ). HoldsBasis n room (m + 1) a vectors' columns' firsts' has_added')
-              more (holds (suc k) (omega arith) (omega arith) (joined_basis e))
+              subst (λ (a : ℕ). HoldsBasis n room (m + 1) a vectors' columns' firsts' numbers'
+              has_added')
+              more (holds (suc k) (omega arith) (omega arith) (joined_basis e) (numbered_more e))
           by false e =
               let more : k ≡ k + cond joins 1 0 =
               let f : k ≡ k + 0 = omega arith in
               f ∙ ap (λ (b : Bool). k + cond b 1 0) (sym e) in
               let few = h.within in
-              subst (λ (a : ℕ). HoldsBasis n room (m + 1) a vectors' columns' firsts' has_added')
-              more (holds k (omega arith) (omega arith) (passed_basis e))
+              subst (λ (a : ℕ). HoldsBasis n room (m + 1) a vectors' columns' firsts' numbers'
+              has_added')
+              more (holds k (omega arith) (omega arith) (passed_basis e) (still_numbered e))
 
     -- ---- what the insertion tells
 
@@ -337,7 +375,7 @@ module _ (n room m k : ℕ) (vectors columns : List (List Bool)) (firsts : List 
     later j l = sym (earlier j l)
 
     pub dependence : (joins ≡ false) ↔ IsSumOfInserted
-        (seen n room m k vectors columns firsts has_added h) column
+        (seen n room m k vectors columns firsts numbers has_added h) column
     dependence = (
       λ e.
           let d = is_dependent e in (
@@ -354,11 +392,12 @@ module _ (n room m k : ℕ) (vectors columns : List (List Bool)) (firsts : List 
       )),
     )
 
--- a list that is written whole
-pub refilled_whole : {A : Type 0} (n : ℕ) (items written : List A) → length items ≡ n →
-    length written ≡ n → take n (written ++ drop (length written) items) ≡ written
-refilled_whole n items written e f =
-    ap (λ (a : ℕ). take a (written ++ drop (length written) items)) (sym f)
+-- a list of so many items, which was lent as `lent` and is written whole
+pub written_whole : {A : Type 0} (n : ℕ) (items lent written : List A) → lent ≡ items →
+    length lent ≡ n → length written ≡ length lent →
+    take n (written ++ drop (length written) items) ≡ written
+written_whole n items lent written e f g =
+    ap (λ (a : ℕ). take a (written ++ drop (length written) items)) (sym f ∙ sym g)
     ∙ take-append_seam written (drop (length written) items)
 
 pub byte_is : (b : Bool) → bool_byte b ≡ cond b 1 0

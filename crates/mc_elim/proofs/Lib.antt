@@ -2,9 +2,11 @@ pub mod AlikeBases
 pub mod BasisAnswers
 pub mod BasisGrows
 pub mod BitSums
+pub mod FlippedMembers
 pub mod LeastSets
 pub mod NoMoreThanRows
 pub mod ReducedGrows
+pub mod RestByRows
 pub mod RowsReduced
 pub mod RowsWritten
 pub mod UnitsByBasis

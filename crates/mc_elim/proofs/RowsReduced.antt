@@ -1,19 +1,21 @@
 -- Rows that are reduced one after another.
-use Rattle.std.specs.Prelude.{◌≡◌, ◌≢◌, ℕ, suc, ◌+◌, ◌<◌, Bool, true, false, cond, ◌&&◌, ◌||◌}
+use Rattle.std.specs.Prelude.{◌≡◌, ◌≢◌, ℕ, ◌+◌, ◌<◌, ◌≤◌, Bool, true, false, cond, ◌&&◌, ◌||◌}
 use Rattle.std.specs.Prelude.{nat_eq, nat_lt, List, [], length, slice_index, slice_set, refl}
 use Rattle.std.proofs.Common.{arith, sym, ap, ap₂, subst, ◌∙◌, inl, inr, get_or-set_same}
 use Rattle.std.proofs.Common.{get_or-set_other, length-set}
 use Rattle.std.proofs.lemmas.Bool.{lt-ltb, le-ltb}
-use Rattle.mc_model.specs.Bits.{◌⊻◌, Bits, odd}
-use Rattle.mc_model.proofs.OddSums.{odd-none}
+use Rattle.mc_model.specs.Bits.{◌⊻◌}
+use Rattle.mc_bits.specs.Words.{IsNextBit, HasNoBit}
 use Rattle.mc_bits.specs.Rows.{bit_of, row_sum}
 use Rattle.mc_bits.proofs.RowsByBits.{row_sum-bit, row_sum-length}
-use Rattle.mc_elim.specs.Reduced.{rest, AreApart}
+use Rattle.mc_elim.specs.Reduced.{AreApart}
 use Rattle.mc_elim.specs.Tables.{row_at, entry, Cleared, CountsUpTo, IsReducedBy, IsClearedOf}
-use Rattle.mc_elim.specs.Tables.{IsNextBit, BecomesVector}
+use Rattle.mc_elim.specs.Tables.{IsReducedAt, BecomesVector}
 use Rattle.mc_elim.proofs.ReducedGrows.{rest_at_first}
+use Rattle.mc_elim.proofs.RestByRows.{rest_below, rest_start, rest_skipped, rest_passed, rest_added}
+use Rattle.mc_elim.proofs.RestByRows.{rest_whole}
 use Rattle.mc_elim.proofs.NoMoreThanRows.{room_for_one}
-use Rattle.mc_elim.proofs.BitSums.{xor_right, and_right, odd-last, same_or_not, last_or_before}
+use Rattle.mc_elim.proofs.BitSums.{same_or_not, last_or_before}
 use Rattle.mc_elim.proofs.BitSums.{clash}
 
 pub cleared_added : (old : List (List Bool)) (from to k : ℕ) → from ≢ to → to < length old →
@@ -66,6 +68,15 @@ count_more old now i added false h =
       added_is = or_false added ∙ h.added_is ∙ ap (λ (n : ℕ). nat_lt old n) (sym same);
     }
 
+-- one test more, at the place `u`
+pub count_to : (old now low u : ℕ) (added has : Bool) → low ≤ u → CountsUpTo old now low added →
+    CountsUpTo old (now + cond has 1 0) (u + 1) (added || has)
+count_to old now low u added has l h =
+    let more = count_more old now low added has h in
+    let rise = more.rise in
+    let most = more.most in
+    record { rise = more.rise; most = omega arith; added_is = more.added_is }
+
 pub nothing_more : (old now i : ℕ) (added has : Bool) → CountsUpTo old now i added →
     now + cond has 1 0 ≡ old → (now ≡ old) × (has ≡ false)
 nothing_more old now i added true h e = let rise = h.rise in absurd (omega arith)
@@ -73,51 +84,78 @@ nothing_more old now i added false h e = (omega arith, refl)
 
 -- ---- the row behind the vectors
 
+-- the row `k` was reduced by those of the rows before it whose first rows are below `low`
+pub record IsReducedTo (old new : List (List Bool)) (firsts : List ℕ) (k low : ℕ) : Type 0 where
+  pub row : (r : ℕ) →
+      entry new k r ≡ rest_below k (slice_index firsts) (entry old) low (entry old k) r
+  pub others : (a : ℕ) → a ≢ k → row_at new a ≡ row_at old a
+  pub count : length new ≡ length old
+  pub width : length (row_at new k) ≡ length (row_at old k)
+
 module _ (old : List (List Bool)) (firsts : List ℕ) (k : ℕ) where
   abbrev p : ℕ → ℕ
   p = slice_index firsts
 
-  pub reduce_none : IsReducedBy old old firsts k 0
+  pub reduce_none : IsReducedTo old old firsts k 0
   reduce_none = record {
-    row = λ r.
-        sym (xor_right (entry old k r) (odd 0 (λ a. entry old k (p a) && entry old a r))
-        (odd-none 0 (λ a. entry old k (p a) && entry old a r) (λ j l. absurd (omega arith))));
+    row = λ r. rest_start k p (entry old) (entry old k) r;
     others = λ a _. refl;
     count = refl;
     width = refl;
   }
 
-  one_more : (a o x : Bool) → (a ⊻ o) ⊻ x ≡ a ⊻ (x ⊻ o)
-  one_more a o x = grind arith
+  module _ (n : ℕ) (apart : AreApart n k p)
+      (own : (a i : ℕ) → a < k → i < k → entry old a (p i) ≡ nat_eq a i)
+      (now : List (List Bool)) (low : ℕ) (h : IsReducedTo old now firsts k low) where
+    pub reduce_more : (u : ℕ) → IsNextBit (entry now k) low n u → (new : List (List Bool)) →
+        (told : Bool) → IsReducedAt now new firsts k u told → IsReducedTo old new firsts k (u + 1)
+    reduce_more u next new told at = by told at
+      where
+        reached : (r : ℕ) → entry now k r ≡ rest_below k p (entry old) u (entry old k) r
+        reached r =
+            h.row r
+            ∙ rest_skipped k p (entry old) (entry old k) own low u next.above
+            (λ r l g. sym (h.row r) ∙ next.first r l g) r
 
-  module _ (i : ℕ) (below : i < k) (own : (a : ℕ) → a < i → entry old a (p i) ≡ false)
-      (now new : List (List Bool)) (h : IsReducedBy old now firsts k i)
-      (c : Cleared now new i k (p i)) where
-    pub tested_bit : entry now k (p i) ≡ entry old k (p i)
-    tested_bit =
-        h.row (p i)
-        ∙ xor_right (entry old k (p i)) (odd i (λ a. entry old k (p a) && entry old a (p i)))
-        (odd-none i (λ a. entry old k (p a) && entry old a (p i))
-        (λ a l. and_right (entry old k (p a)) (entry old a (p i)) (own a l)))
-
-    pub reduce_more : IsReducedBy old new firsts k (i + 1)
-    reduce_more =
-        let apart : i ≢ k = omega arith in
-        let next : suc i ≡ i + 1 = omega arith in
-        record {
+        by : (told : Bool) → IsReducedAt now new firsts k u told →
+            IsReducedTo old new firsts k (u + 1)
+        by true (i, l, first, c) =
+            let other : i ≢ k = omega arith in
+            record {
+              row = λ r.
+                  c.sum r
+                  ∙ ap₂ (λ (x y : Bool). x ⊻ y) (reached r)
+                  (ap₂ (λ (x y : Bool). x && y) next.has
+                  (ap (λ (row : List Bool). bit_of row r) (h.others i other)))
+                  ∙ rest_added k p (entry old) (entry old k) own u i l first
+                  (sym (reached u) ∙ next.has)
+                  (λ a g e. apart.apart a i g l (e ∙ sym first)) r;
+              others = λ a ne. c.others a ne ∙ h.others a ne;
+              count = c.count ∙ h.count;
+              width = c.width ∙ h.width;
+            }
+        by false (free, same) = record {
           row = λ r.
-              let term : Bits = λ a. entry old k (p a) && entry old a r in
-              c.sum r
-              ∙ ap₂ (λ (b d : Bool). b ⊻ d) (h.row r)
-              (ap₂ (λ (b d : Bool). b && d) tested_bit
-              (ap (λ (row : List Bool). bit_of row r) (h.others i apart)))
-              ∙ one_more (entry old k r) (odd i term) (term i)
-              ∙ ap (λ (b : Bool). entry old k r ⊻ b) (sym (odd-last i term))
-              ∙ ap (λ (n : ℕ). rest n p (entry old) (entry old k) r) next;
-          others = λ a ne. c.others a ne ∙ h.others a ne;
-          count = c.count ∙ h.count;
-          width = c.width ∙ h.width;
+              ap (λ (rows : List (List Bool)). entry rows k r) same
+              ∙ reached r
+              ∙ rest_passed k p (entry old) (entry old k) u r free;
+          others = λ a ne.
+              ap (λ (rows : List (List Bool)). row_at rows a) same ∙ h.others a ne;
+          count = ap (λ (rows : List (List Bool)). length rows) same ∙ h.count;
+          width =
+              ap (λ (rows : List (List Bool)). length (row_at rows k)) same ∙ h.width;
         }
+
+    pub reduce_whole : low ≤ n → HasNoBit (entry now k) low n → IsReducedBy old now firsts k k
+    reduce_whole le none = record {
+      row = λ r.
+          h.row r
+          ∙ rest_whole k p (entry old) (entry old k) own low n le apart.below
+          (λ r l g. sym (h.row r) ∙ none r l g) r;
+      others = h.others;
+      count = h.count;
+      width = h.width;
+    }
 
 -- ---- the vectors before the row
 
@@ -159,7 +197,7 @@ module _ (old : List (List Bool)) (k t : ℕ) where
 -- ---- the next vector
 
 pub next_vector : (n k t : ℕ) (firsts : List ℕ) (old now new : List (List Bool)) →
-    k < length firsts → IsReducedBy old now firsts k k → IsNextBit (row_at now k) 0 n t →
+    k < length firsts → IsReducedBy old now firsts k k → IsNextBit (entry now k) 0 n t →
     IsClearedOf now new k t k → BecomesVector n k firsts (slice_set firsts k t) old new
 next_vector n k t firsts old now new within h bit c = record {
   t = t;
@@ -181,7 +219,7 @@ next_vector n k t firsts old now new within h bit c = record {
 pub room_left : (n k t : ℕ) (firsts : List ℕ) (old now : List (List Bool)) →
     AreApart n k (slice_index firsts) →
     ((a i : ℕ) → a < k → i < k → entry old a (slice_index firsts i) ≡ nat_eq a i) →
-    IsReducedBy old now firsts k k → IsNextBit (row_at now k) 0 n t → k < n
+    IsReducedBy old now firsts k k → IsNextBit (entry now k) 0 n t → k < n
 room_left n k t firsts old now apart own h bit =
     room_for_one n k t (slice_index firsts) apart bit.below
     (λ i l e. clash (entry now k t) bit.has

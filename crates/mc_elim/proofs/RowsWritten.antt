@@ -63,6 +63,20 @@ first_more old new f k b h e g r =
     ∙ ap₂ (λ (c d : Bool). c ⊻ (d && nat_eq r k)) (h r) e
     ∙ one_more_bit f k r
 
+-- nothing stands between `low` and `k`
+pub first_skipped : (f : Bits) (low k : ℕ) → low ≤ k →
+    ((r : ℕ) → low ≤ r → r < k → f r ≡ false) → (r : ℕ) → first_bits low f r ≡ first_bits k f r
+first_skipped f low k le none r = elim (sides r low) [
+  | inl lt ↦ rw (lt-ltb r low lt, lt-ltb r k (omega arith)) refl
+  | inr ge ↦ elim (sides r k) [
+    | inl lt ↦ rw (le-ltb r low ge, lt-ltb r k lt) (sym (none r ge lt))
+    | inr far ↦ rw (le-ltb r low ge, le-ltb r k far) refl
+  ]
+]
+  where
+    sides : (r k : ℕ) → (r < k) ⊎ (k ≤ r)
+    sides r k = grind arith
+
 pub first_bit : (f : Bits) (k r : ℕ) → r < k → first_bits k f r ≡ f r
 first_bit f k r l = rw (lt-ltb r k l) refl
 

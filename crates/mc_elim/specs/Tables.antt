@@ -33,22 +33,19 @@ pub record IsReducedBy (old new : List (List Bool)) (firsts : List ℕ) (k i : �
   pub count : length new ≡ length old
   pub width : length (row_at new k) ≡ length (row_at old k)
 
+-- the vector with the first row `u`, if there is one, was added into the row `k`
+abbrev pub IsReducedAt : List (List Bool) → List (List Bool) → List ℕ → ℕ → ℕ → Bool → Type 0
+IsReducedAt old new firsts k u true =
+    (i : ℕ) × (i < k) × (slice_index firsts i ≡ u) × Cleared old new i k u
+IsReducedAt old new firsts k u false =
+    ((i : ℕ) → i < k → slice_index firsts i ≢ u) × (new ≡ old)
+
 -- the row `k` was added into each of the first `i` rows that has the bit `t`
 pub record IsClearedOf (old new : List (List Bool)) (k t i : ℕ) : Type 0 where
   pub done : (a r : ℕ) → a < i → entry new a r ≡ entry old a r ⊻ (entry old a t && entry old k r)
   pub left : (a : ℕ) → i ≤ a → row_at new a ≡ row_at old a
   pub count : length new ≡ length old
   pub width : (a : ℕ) → length (row_at new a) ≡ length (row_at old a)
-
--- the first bit of a row from `low` on and below `high`
-pub record IsNextBit (row : List Bool) (low high t : ℕ) : Type 0 where
-  pub above : low ≤ t
-  pub below : t < high
-  pub has : bit_of row t ≡ true
-  pub first : (r : ℕ) → low ≤ r → r < t → bit_of row r ≡ false
-
-abbrev pub HasNoBit : List Bool → ℕ → ℕ → Type 0
-HasNoBit row low high = (r : ℕ) → low ≤ r → r < high → bit_of row r ≡ false
 
 -- nothing of the row `k` was left
 pub record LeavesNothing (n k : ℕ) (firsts : List ℕ) (old new : List (List Bool)) : Type 0 where

@@ -8,7 +8,7 @@ ghost use Rattle.mc_elim.specs.Basis.{count_of, IsSumOfInserted, IsLeastSolution
 ghost use Rattle.mc_elim.specs.Basis.{HasNoSolution, IsLeastRefuter, HasNoRefuter, HasOneColumn};
 
 use crate::reduce::join;
-use crate::tables::{marked, next_bit, vector_of, write_members, write_null_set};
+use crate::tables::{marked, vector_of, write_null_set};
 use mc_bits::{BitRow, Rows, Steps};
 use mc_model::Memory;
 use std::alloc::Global;
@@ -21,6 +21,8 @@ pub struct Basis {
     vectors: Rows,
     columns: Rows,
     firsts: Vec<u16>,
+    /// The number of each vector at its first row, and any number at other rows.
+    numbers: Vec<u16>,
     rows: u16,
     room: u16,
     inserted: u16,
@@ -42,7 +44,16 @@ impl Model for Basis {
     } };
 
     ghost invariant = { λ b. HoldsBasis b.rows b.room b.inserted b.len b.vectors b.columns
-        b.firsts.items b.has_added };
+        b.firsts.items b.numbers.items b.has_added };
+}
+
+fn zeros(alloc: Global, n: u16) -> Result<Vec<u16>, Memory>
+    ensures { IfOk result (λ zeros. length zeros.items ≡ n) }
+{
+    match vec![in alloc; 0; n as usize] {
+        Ok(zeros) => Ok(zeros),
+        Err(_) => Err(Memory),
+    }
 }
 
 impl Basis {
@@ -52,16 +63,15 @@ impl Basis {
         ensures { IfOk result (λ basis. (basis.rows ≡ rows) × (basis.room ≡ columns)
             × (basis.columns ≡ []) × (basis.has_added ≡ false)) }
     {
-        let firsts = match vec![in alloc; 0; rows as usize] {
-            Ok(firsts) => firsts,
-            Err(_) => return Err(Memory),
-        };
+        let firsts = zeros(alloc, rows)?;
+        let numbers = zeros(alloc, rows)?;
         let vectors = Rows::new(alloc, rows + 1, rows + columns)?;
         let inserted = Rows::new(alloc, columns, rows)?;
         Ok(Basis {
             vectors,
             columns: inserted,
             firsts,
+            numbers,
             rows,
             room: columns,
             inserted: 0,
@@ -98,6 +108,7 @@ impl Basis {
         let joined = join(
             &mut self.vectors,
             &mut self.firsts,
+            &mut self.numbers,
             self.len,
             self.rows,
             &mut self.has_added,
@@ -121,11 +132,11 @@ impl Basis {
         ensures no { result ≡ false → HasNoSolution self.now u × (out.new ≡ out.old) }
         ensures length { length out.new ≡ length out.old }
     {
-        match vector_of(&self.firsts, self.len, u) {
-            Some(i) => match next_bit(self.vectors.row(i), u + 1, self.rows) {
+        match vector_of(&self.firsts, &self.numbers, self.len, u) {
+            Some(i) => match self.vectors.row(i).next_bit(u + 1, self.rows) {
                 Some(_) => false,
                 None => {
-                    write_members(self.vectors.row(i), self.rows, out);
+                    *out = self.vectors.row(i).tail(self.rows);
                     true
                 }
             },
@@ -144,8 +155,8 @@ impl Basis {
         ensures solved { result ≡ false → HasSolution self.now u }
         ensures length { length out.new ≡ length out.old }
     {
-        match vector_of(&self.firsts, self.len, u) {
-            Some(i) => match next_bit(self.vectors.row(i), u + 1, self.rows) {
+        match vector_of(&self.firsts, &self.numbers, self.len, u) {
+            Some(i) => match self.vectors.row(i).next_bit(u + 1, self.rows) {
                 Some(f) => {
                     write_null_set(&self.vectors, &self.firsts, self.len, f, out);
                     true

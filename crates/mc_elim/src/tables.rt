@@ -5,8 +5,8 @@ ghost use Rattle.std.specs.Prelude.{nat_eq};
 ghost use Rattle.std.specs.Prelude.{slice_index, slice_set, cond};
 ghost use Rattle.mc_model.specs.Bits.{◌⊻◌};
 ghost use Rattle.mc_bits.specs.Rows.{bit_of, row_sum};
-ghost use Rattle.mc_elim.specs.Reduced.{null_set};
-ghost use Rattle.mc_elim.specs.Tables.{row_at, entry, IsNextBit, HasNoBit};
+ghost use Rattle.mc_elim.specs.Reduced.{IsNumberedBy, null_set};
+ghost use Rattle.mc_elim.specs.Tables.{row_at, entry};
 
 use mc_bits::{BitRow, Rows};
 
@@ -16,51 +16,25 @@ pub fn marked(column: &BitRow, width: u16, mark: u16) -> BitRow
     ensures bits { (r : ℕ) → bit_of result r ≡ (bit_of column.now r ⊻ nat_eq r mark) }
     ensures length { length result ≡ width }
 {
-    let mut row = BitRow::new(width);
-    'bits: for k in 0..column.len() {
-        row.flip_if(k, column.bit(k));
-    }
+    let mut row = column.widened(width);
     row.flip_if(mark, true);
     row
 }
 
-/// The first bit from `low` on and below `high`.
-pub fn next_bit(row: &BitRow, low: u16, high: u16) -> Option<u16>
-    requires { high ≤ length row.now }
-    ensures { MatchOption result (HasNoBit row.now low high) (IsNextBit row.now low high) }
-{
-    'bits: for k in low..high {
-        if row.bit(k) {
-            return Some(k);
-        }
-    }
-    None
-}
-
-/// The vector with this first row.
-pub fn vector_of(firsts: &[u16], count: u16, u: u16) -> Option<u16>
-    requires { count ≤ length firsts.now }
+/// The vector with this first row. It stands in the list of numbers at that row, where numbers of
+/// no vector may stand too.
+pub fn vector_of(firsts: &[u16], numbers: &[u16], count: u16, u: u16) -> Option<u16>
+    requires row { u < length numbers.now }
+    requires count { count ≤ length firsts.now }
+    requires numbers { IsNumberedBy count (slice_index firsts.now) (slice_index numbers.now) }
     ensures { MatchOption result ((i : ℕ) → i < count → slice_index firsts.now i ≢ u)
         (λ i. (i < count) × (slice_index firsts.now i ≡ u)) }
 {
-    'vectors: for i in 0..count {
-        if firsts[i as usize] == u {
-            return Some(i);
-        }
+    let i = numbers[u as usize];
+    if i < count && firsts[i as usize] == u {
+        return Some(i);
     }
     None
-}
-
-/// Writes what stands in a row from `low` on.
-pub fn write_members(row: &BitRow, low: u16, out: &mut BitRow)
-    requires { low + length out.old ≡ length row.now }
-    ensures bits { (j : ℕ) → bit_of out.new j ≡ bit_of row.now (low + j) }
-    ensures length { length out.new ≡ length out.old }
-{
-    *out = BitRow::new(out.len());
-    'members: for j in 0..row.len() - low {
-        out.flip_if(j, row.bit(low + j));
-    }
 }
 
 /// Writes the row `f` and the first rows of the vectors that hold it.

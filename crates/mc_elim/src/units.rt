@@ -69,26 +69,16 @@ impl Units {
     }
 }
 
-/// Adds a number that is no member, or takes it out, if told to.
-fn toggle_if(set: &mut QSet, k: u16, told: bool) -> Result<(), Memory>
-    requires { k < 256 }
-    ensures { OnOk result ((r : ℕ) →
-        is_member set.new r ≡ (is_member set.old r ⊻ (told && nat_eq r k))) }
-{
-    if told {
-        return set.toggle(k);
-    }
-    Ok(())
-}
-
 /// The places of a row of at most 256 bits at which the bit is 1.
 pub fn members_of(alloc: Global, row: &BitRow) -> Result<QSet, Memory>
     requires { length row.now ≤ 256 }
     ensures { IfOk result (λ set. (k : ℕ) → is_member set k ≡ bit_of row.now k) }
 {
     let mut set = QSet::new(alloc);
-    'bits: for k in 0..row.len() {
-        toggle_if(&mut set, k, row.bit(k))?;
+    let mut low = 0;
+    'members: while let Some(k) = row.next_bit(low, row.len()) {
+        set.toggle(k)?;
+        low = k + 1;
     }
     Ok(set)
 }

@@ -16,7 +16,8 @@ use Rattle.mc_model.specs.Made.{is_current}
 use Rattle.mc_model.proofs.BitLemmas.{replaced_other, xor_false}
 use Rattle.mc_model.proofs.OddSums.{xor_and, odd-same, odd-xor}
 use Rattle.mc_model.proofs.Refutation.{odd_of_single, joins_comm}
-use Rattle.mc_make.proofs.SetSums.{odd-pick, parity-numbers_where}
+use Rattle.mc_odd.proofs.NumberSums.{parity-numbers_where}
+use Rattle.mc_make.proofs.SetSums.{odd-pick}
 use Rattle.mc_make.proofs.GraphStates.{flipped, inside, set_sum, inside_flipped}
 use Rattle.mc_make.proofs.MeasuringOrder.{IsWhere, where_all, all-weaker}
 use Rattle.mc_extract.proofs.Chains.{corrects_causally}

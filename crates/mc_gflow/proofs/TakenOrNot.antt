@@ -1,5 +1,5 @@
 -- One more vertex was asked.
-use Rattle.std.specs.Prelude.{◌≡◌, ◌≢◌, ◌⊎◌, ℕ, suc, ◌+◌, ◌<◌}
+use Rattle.std.specs.Prelude.{◌≡◌, ◌≢◌, ◌⊎◌, ℕ, zero, suc, ◌+◌, ◌<◌}
 use Rattle.std.specs.Prelude.{◌≤◌, Bool, true, false, ◌&&◌, cond}
 use Rattle.std.specs.Prelude.{nat_eq, List, [], length, slice_index, slice_set, replicate, refl}
 use Rattle.std.proofs.Common.{arith, sym, ap, ap₂, subst, ◌∙◌, inl, inr, get_or-set_same}
@@ -230,6 +230,26 @@ vertices_none n w order s row e =
     ap (λ (r : List Bool). bit_of r w) e
     ∙ no_bits n w
     ∙ sym (odd-none 0 (λ j. s j && nat_eq w (order j)) (λ j l. absurd (omega arith)))
+
+odd-skipped : (n m : ℕ) (f : Bits) → n ≤ m → ((j : ℕ) → n ≤ j → j < m → f j ≡ false) →
+    odd n f ≡ odd m f
+odd-skipped n zero f l none = ap (λ (a : ℕ). odd a f) (omega arith)
+odd-skipped n (suc m) f l none = elim (split n m l) [
+  | inl le ↦
+      odd-skipped n m f le (λ j g h. none j g (omega arith))
+      ∙ sym (odd-last m f ∙ ap (λ (b : Bool). b ⊻ odd m f) (none m le (omega arith)))
+  | inr eq ↦ ap (λ (a : ℕ). odd a f) eq
+]
+  where
+    split : (n m : ℕ) → n ≤ suc m → (n ≤ m) ⊎ (n ≡ suc m)
+    split n m l = grind arith
+
+-- no column from `j` on and before `k` is in the set
+pub vertices_skipped : (j k w : ℕ) (order : ℕ → ℕ) (s : Bits) → j ≤ k →
+    ((i : ℕ) → j ≤ i → i < k → s i ≡ false) → vertices_of j order s w ≡ vertices_of k order s w
+vertices_skipped j k w order s l none =
+    odd-skipped j k (λ i. s i && nat_eq w (order i)) l
+    (λ i g h. ap (λ (b : Bool). b && nat_eq w (order i)) (none i g h))
 
 swapped : (a b : Bool) → a ⊻ b ≡ b ⊻ a
 swapped a b = grind arith

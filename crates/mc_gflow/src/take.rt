@@ -27,8 +27,10 @@ fn write_vertices(columns: &BitRow, order: &[u16], count: u16, out: &mut BitRow)
     ensures length { length out.new ≡ length out.old }
 {
     *out = BitRow::new(out.len());
-    'columns: for j in 0..count {
-        out.flip_if(order[j as usize], columns.bit(j));
+    let mut low = 0;
+    'columns: while let Some(j) = columns.next_bit(low, count) {
+        out.flip_if(order[j as usize], true);
+        low = j + 1;
     }
 }
 

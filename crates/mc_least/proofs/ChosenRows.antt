@@ -16,8 +16,7 @@ use Rattle.mc_model.specs.Depth.{KeepsAbove, IsDepthBound}
 use Rattle.mc_model.proofs.DepthBounds.{within_depth}
 use Rattle.mc_graph.specs.RowLists.{has_row, HaveOwnVertices}
 use Rattle.mc_graph.specs.Flows.{FlowRows, layer_in, sets_in}
-use Rattle.mc_cert.specs.declared.rows.LayerRow.{LayerRow}
-use Rattle.mc_cert.specs.declared.rows.BoundRow.{BoundRow}
+use Rattle.mc_cert.specs.BoundRecords.{LayerRow, BoundRow}
 use Rattle.mc_cert.specs.BoundRules.{stated_in, keeping_in, is_for, IsAsked}
 use Rattle.mc_cert.specs.Bounds.{BoundRows, AreOwn}
 use Rattle.mc_cert.proofs.RowLemmas.{found_row, found_none, listed_has_row, count_of_distinct}

@@ -5,8 +5,7 @@ use Rattle.mc_model.specs.Signals.{IsRising}
 use Rattle.mc_model.specs.Graph.{OpenGraph, size, is_output}
 use Rattle.mc_model.specs.Choice.{IsLeastSet, IsLaterNumber}
 use Rattle.mc_model.specs.Depth.{KeepsAbove}
-use Rattle.mc_cert.specs.declared.rows.LayerRow.{LayerRow}
-use Rattle.mc_cert.specs.declared.rows.BoundRow.{BoundRow}
+use Rattle.mc_cert.specs.BoundRecords.{LayerRow, BoundRow}
 use Rattle.mc_least.specs.Listed.{Lists}
 
 -- a vertex of layer `j`, at least 1

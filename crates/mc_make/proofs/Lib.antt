@@ -1,5 +1,4 @@
 pub mod SetSums
-pub mod FlippedBits
 pub mod GraphStates
 pub mod MeasuringOrder
 pub mod OrderLists

@@ -4,7 +4,6 @@
 
 mod laws;
 mod make;
-mod odd;
 
 pub use laws::{
     chosen_flows_are_least_deep, chosen_patterns_fix_z_on_outputs,

@@ -19,10 +19,11 @@ ghost use Rattle.mc_graph.specs.Flows.{IsFlowOf, set_in, sets_in, layer_in};
 use crate::laws::{
     flow_patterns_are_deterministic, flow_patterns_keep_scale, zero_branch_of_flow_pattern,
 };
-use crate::odd::odd_neighbours;
 use mc_bits::BitRow;
+use mc_elim::row_of;
 use mc_graph::{GFlow, OpenGraph, QSet, order_of, pattern_of, push_measurement, state_of};
 use mc_model::Memory;
+use mc_odd::odd_neighbours;
 use mc_pattern::{Command, Pattern, Signal};
 use std::alloc::Global;
 
@@ -108,8 +109,9 @@ fn push_xs<const H: usize>(
         map plain_command commands.old.items
         ++ map (λ k. FixX k (plain_signal_of q)) (numbers_where (is_member set.now) (size g.now))) }
 {
+    let members = row_of(set, g.len());
     'vertices: for v in 0..g.len() {
-        push_x_if(alloc, set.has(v), v, q, commands)?;
+        push_x_if(alloc, members.bit(v), v, q, commands)?;
     }
     Ok(())
 }

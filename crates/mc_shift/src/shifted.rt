@@ -19,7 +19,7 @@ use mc_model::Memory;
 use mc_pattern::Change;
 use mc_rules::settled_is_standard;
 use mc_signal::Signal;
-use mc_standard::{Fix, Measure, Standard};
+use mc_standard::{Fix, Measure, Standard, Sum};
 use std::alloc::Global;
 
 /// The most qubits of a pattern.
@@ -35,30 +35,28 @@ fn append<T: Drop>(items: &mut Vec<T>, item: T) -> Result<(), Memory>
     }
 }
 
-/// An empty signal for each qubit.
-fn no_shifts(alloc: Global) -> Result<Vec<Signal>, Memory>
+/// An empty sum for each qubit.
+fn no_shifts(alloc: Global) -> Result<Vec<Sum>, Memory>
     ensures { IfOk result (λ shifts. length shifts.items ≡ 256) }
 {
     let mut shifts = Vec::new(alloc);
     'qubits: for _ in 0..MOST_QUBITS {
-        append(&mut shifts, Signal::empty(alloc))?;
+        append(&mut shifts, Sum::new())?;
     }
     Ok(shifts)
 }
 
-/// The signal with the signal of each member added.
-fn put_in(shifts: &[Signal], s: &Signal) -> Result<Signal, Memory>
+/// The signal with the sum of each member added.
+fn put_in(shifts: &[Sum], s: &Signal) -> Sum
     requires { length shifts.now ≡ 256 }
-    ensures { IfOk result (λ sum. IsPutIn (signals_of shifts.now) s.now sum) }
+    ensures { IsPutIn (signals_of shifts.now) s.now result }
 {
     let members = s.members();
-    let mut sum = s.copy()?;
+    let mut sum = Sum::of(s);
     'members: for i in 0..members.len() {
-        sum.add(&shifts[members.get(i) as usize])?;
+        sum.add_sum(&shifts[members.get(i) as usize]);
     }
-    // the proof needs that the members rise
-    let _members = sum.members();
-    Ok(sum)
+    sum
 }
 
 /// The measurements without second signals, which are shifted into later signals: `shifts` gets what tells the outcomes from the
@@ -66,7 +64,7 @@ fn put_in(shifts: &[Signal], s: &Signal) -> Result<Signal, Memory>
 fn shift_measures<const H: usize>(
     alloc: Global,
     p: &Standard<H>,
-    shifts: &mut [Signal],
+    shifts: &mut [Sum],
     change: &mut Change,
 ) -> Result<Vec<Measure<H>>, Memory>
     requires standard { IsStandardForm H p.now }
@@ -84,18 +82,18 @@ fn shift_measures<const H: usize>(
         let shifted = Measure {
             q: measure.q,
             angle: measure.angle,
-            s: put_in(shifts, &measure.s)?,
+            s: put_in(shifts, &measure.s).signal(alloc)?,
             t: Signal::empty(alloc),
         };
         append(&mut measures, shifted)?;
         change.push(measure.q, measure.t.copy()?)?;
-        shifts[measure.q as usize] = put_in(shifts, &measure.t)?;
+        shifts[measure.q as usize] = put_in(shifts, &measure.t);
     }
     Ok(measures)
 }
 
 /// The correction with the signals of its members added.
-fn shift_fix(shifts: &[Signal], fix: &Fix) -> Result<Fix, Memory>
+fn shift_fix(alloc: Global, shifts: &[Sum], fix: &Fix) -> Result<Fix, Memory>
     requires { length shifts.now ≡ 256 }
     ensures { IfOk result (λ shifted.
         IsFixPutIn (signals_of shifts.now) (plain_fix fix.now) (plain_fix shifted)) }
@@ -103,11 +101,11 @@ fn shift_fix(shifts: &[Signal], fix: &Fix) -> Result<Fix, Memory>
     match fix {
         Fix::X { q, s } => Ok(Fix::X {
             q: *q,
-            s: put_in(shifts, s)?,
+            s: put_in(shifts, s).signal(alloc)?,
         }),
         Fix::Z { q, s } => Ok(Fix::Z {
             q: *q,
-            s: put_in(shifts, s)?,
+            s: put_in(shifts, s).signal(alloc)?,
         }),
     }
 }
@@ -116,7 +114,7 @@ fn shift_fix(shifts: &[Signal], fix: &Fix) -> Result<Fix, Memory>
 fn shift_fixes<const H: usize>(
     alloc: Global,
     p: &Standard<H>,
-    shifts: &[Signal],
+    shifts: &[Sum],
 ) -> Result<Vec<Fix>, Memory>
     requires standard { IsStandardForm H p.now }
     requires parts { IsInParts p.now.commands }
@@ -128,7 +126,7 @@ fn shift_fixes<const H: usize>(
 {
     let mut fixes = Vec::new(alloc);
     'fixes: for fix in p.fixes() {
-        append(&mut fixes, shift_fix(shifts, fix)?)?;
+        append(&mut fixes, shift_fix(alloc, shifts, fix)?)?;
     }
     Ok(fixes)
 }

@@ -2,6 +2,7 @@ pub mod CodeParts
 pub mod Edits
 pub mod ImprovedAtPlace
 pub mod InParts
+pub mod NextOnes
 pub mod OddPairs
 pub mod OrderedFronts
 pub mod PickedRules
@@ -10,3 +11,4 @@ pub mod RuleTypes
 pub mod RunningPass
 pub mod StandardPatterns
 pub mod StandardTyped
+pub mod SumBits

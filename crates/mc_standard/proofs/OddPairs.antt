@@ -1,24 +1,23 @@
 -- A table of pairs in which one is counted once more, and the pairs that are listed from it.
-use Rattle.std.proofs.Common.{◌≡◌, ℕ, zero, suc, ◌+◌, ◌*◌, ◌<◌, ◌≤◌, Bool, true, false, cond, not}
-use Rattle.std.proofs.Common.{◌&&◌, ◌||◌, List, [], ◌∷◌, ◌++◌, length, set, get_or, replicate}
-use Rattle.std.proofs.Common.{get_or-set_same, get_or-set_other, refl, sym, ◌∙◌, ap, ap₂, arith}
-use Rattle.std.specs.Prelude.{nat_eq, nat_lt, slice_get, unwrap_or}
-use Rattle.std.proofs.lemmas.List.{get_or-replicate}
-use Rattle.std.proofs.lemmas.Bool.{eq-eqb, ne_eqb, le-ltb, cases_eq, cases_lt}
-use Rattle.std.proofs.lemmas.Option.{unwrap_or-slice_get}
+use Rattle.std.proofs.Common.{◌≡◌, ℕ, zero, suc, ◌+◌, ◌-◌, ◌*◌, ◌<◌, ◌≤◌, Bool, true, false, cond}
+use Rattle.std.proofs.Common.{◌&&◌, ◌||◌, List, [], ◌∷◌, ◌++◌, replicate, refl, sym, ◌∙◌, ap, ap₂}
+use Rattle.std.proofs.Common.{arith, append-nil}
+use Rattle.std.specs.Prelude.{nat_eq, nat_lt}
+use Rattle.std.proofs.lemmas.Bool.{eq-eqb, ne_eqb, lt-ltb, le-ltb, cases_eq, cases_lt}
 use mathlib.Core.Logic.{inl, inr}
 use Rattle.mc_model.specs.Bits.{◌⊻◌, same_pair}
 use Rattle.mc_model.specs.Numbers.{pairs_at, pairs_below}
+use Rattle.mc_bits.specs.Words.{word_bit}
+use Rattle.mc_bits.proofs.BitsOfWords.{zero_words}
+use Rattle.mc_standard.specs.NextBits.{IsNext}
 use Rattle.mc_standard.specs.OddPairs.{is_odd}
 
 -- ---- no pair
 
-pub none_odd : (n : ℕ) (bits : List Bool) → bits ≡ replicate n false → (k : ℕ) → k < n →
-    unwrap_or (slice_get bits k) false ≡ false
-none_odd n bits e k h =
-    unwrap_or-slice_get bits k false
-    ∙ ap (λ (xs : List Bool). get_or xs k false) e
-    ∙ get_or-replicate n k false false h
+pub none_odd : (words : List ℕ) → words ≡ replicate 1024 0 → (i j : ℕ) →
+    is_odd words i j ≡ false
+none_odd words e i j =
+    ap (λ (ws : List ℕ). word_bit ws (i * 256 + j)) e ∙ zero_words 1024 (i * 256 + j)
 
 -- ---- one pair
 
@@ -44,37 +43,21 @@ place_apart : (i j low high : ℕ) → j < 256 → high < 256 → i * 256 + j �
     (i ≡ low) × (j ≡ high)
 place_apart i j low high h g e = (omega arith, omega arith)
 
-flipped : (b : Bool) → not b ≡ b ⊻ true
-flipped true = refl
-flipped false = refl
-
-kept : (b : Bool) → b ≡ b ⊻ false
-kept true = refl
-kept false = refl
-
-pub pair_flipped : (odd : List Bool) (low high : ℕ) (old new : Bool) → length odd ≡ 65536 →
-    low < high → high < 256 → old ≡ is_odd odd low high → new ≡ not old →
-    (i j : ℕ) → i < j → j < 256 →
-    is_odd (set odd (low * 256 + high) new) i j ≡ is_odd odd i j ⊻ same_pair i j low high
-pair_flipped odd low high old new long order within read flips i j h g =
-    unwrap_or-slice_get (set odd (low * 256 + high) new) (i * 256 + j) false
-    ∙ elim (cases_eq (i * 256 + j) (low * 256 + high)) [
+-- the bit of a pair is changed at its place alone
+pub pair_flipped : (odd more : List ℕ) (low high : ℕ) → low < high → high < 256 →
+    ((k : ℕ) → word_bit more k ≡ (word_bit odd k ⊻ nat_eq k (low * 256 + high))) →
+    (i j : ℕ) → i < j → j < 256 → is_odd more i j ≡ is_odd odd i j ⊻ same_pair i j low high
+pair_flipped odd more low high order within changed i j h g =
+    changed (i * 256 + j)
+    ∙ ap (λ (b : Bool). is_odd odd i j ⊻ b) (elim (cases_eq (i * 256 + j) (low * 256 + high)) [
       | inl e ↦
           let same = place_apart i j low high g within e in
-          let there : low * 256 + high < length odd = omega arith in
-          ap (λ (k : ℕ). get_or (set odd (low * 256 + high) new) k false) e
-          ∙ get_or-set_same odd (low * 256 + high) new false there
-          ∙ flips ∙ ap not read
-          ∙ flipped (is_odd odd low high)
-          ∙ ap₂ (λ (a b : Bool). a ⊻ b)
-          (ap₂ (λ (k l : ℕ). is_odd odd k l) (sym same.0) (sym same.1))
-          (sym (one_pair i j low high same.0 same.1))
+          eq-eqb (i * 256 + j) (low * 256 + high) e
+          ∙ sym (one_pair i j low high same.0 same.1)
       | inr ne ↦
-          get_or-set_other odd (low * 256 + high) (i * 256 + j) new false ne
-          ∙ sym (unwrap_or-slice_get odd (i * 256 + j) false)
-          ∙ kept (is_odd odd i j)
-          ∙ ap (λ (b : Bool). is_odd odd i j ⊻ b) (sym (other_pair i j low high h order ne))
-    ]
+          ne_eqb (i * 256 + j) (low * 256 + high) ne
+          ∙ sym (other_pair i j low high h order ne)
+    ])
 
 either_way : (a b : Bool) → a || b ≡ b || a
 either_way a b = grind arith
@@ -99,6 +82,61 @@ pub pairs_at-none : {A : Type 0} (make : ℕ → ℕ → A) (p : ℕ → ℕ →
     pairs_at make p i 0 ≡ []
 unfolding pairs_at
 pairs_at-none make p i = refl
+
+-- numbers with which no pair passes
+pairs_at-skip : {A : Type 0} (make : ℕ → ℕ → A) (p : ℕ → ℕ → Bool) (i m n : ℕ) → m ≤ n →
+    ((k : ℕ) → m ≤ k → k < n → (nat_lt i k && p i k) ≡ false) →
+    pairs_at make p i n ≡ pairs_at make p i m
+unfolding pairs_at
+pairs_at-skip make p i m zero le none =
+    let e : 0 ≡ m = omega arith in ap (pairs_at make p i) e
+pairs_at-skip make p i m (suc n) le none = elim (cases_eq m (suc n)) [
+  | inl e ↦ ap (pairs_at make p i) (sym e)
+  | inr ne ↦
+      ap₂ (λ (xs : List _) (b : Bool). xs ++ cond b (make i n ∷ []) [])
+      (pairs_at-skip make p i m n (omega arith) (λ k l h. none k l (omega arith)))
+      (none n (omega arith) (omega arith))
+      ∙ append-nil (pairs_at make p i m)
+]
+
+-- the pairs of a row up to its first
+pub row_begun : {A : Type 0} (make : ℕ → ℕ → A) (odd : List ℕ) (i end place : ℕ) →
+    IsNext (word_bit odd) (i * 256 + i + 1) end place →
+    pairs_at make (is_odd odd) i (place - i * 256) ≡ []
+row_begun make odd i end place next =
+    pairs_at-skip make (is_odd odd) i 0 (place - i * 256) (omega arith)
+    (λ k l h. elim (cases_lt i k) [
+      | inl more ↦
+          ap (λ (b : Bool). nat_lt i k && b) (next.none (i * 256 + k) (omega arith) (omega arith))
+          ∙ and_false (nat_lt i k)
+      | inr less ↦ ap (λ (b : Bool). b && is_odd odd i k) (le-ltb i k less)
+    ])
+    ∙ pairs_at-none make (is_odd odd) i
+  where
+    and_false : (b : Bool) → (b && false) ≡ false
+    and_false b = grind arith
+
+-- with one more, up to the next
+pub row_more : {A : Type 0} (make : ℕ → ℕ → A) (odd : List ℕ) (i end place after : ℕ) →
+    i * 256 + i + 1 ≤ place → word_bit odd place ≡ true →
+    IsNext (word_bit odd) (place + 1) end after →
+    pairs_at make (is_odd odd) i (after - i * 256)
+    ≡ pairs_at make (is_odd odd) i (place - i * 256) ++ (make i (place - i * 256) ∷ [])
+row_more make odd i end place after from one next =
+    let order = next.order in
+    let j : ℕ = place - i * 256 in
+    let at : i * 256 + j ≡ place = omega arith in
+    let odd_here : is_odd odd i j ≡ true = ap (word_bit odd) at ∙ one in
+    pairs_at-skip make (is_odd odd) i (j + 1) (after - i * 256) (omega arith)
+    (λ k l h.
+    ap (λ (b : Bool). nat_lt i k && b) (next.none (i * 256 + k) (omega arith) (omega arith))
+    ∙ and_false (nat_lt i k))
+    ∙ pairs_at-next make (is_odd odd) i j
+    ∙ ap₂ (λ (a b : Bool). pairs_at make (is_odd odd) i j ++ cond (a && b) (make i j ∷ []) [])
+    (lt-ltb i j (omega arith)) odd_here
+  where
+    and_false : (b : Bool) → (b && false) ≡ false
+    and_false b = grind arith
 
 pub pairs_below-none : {A : Type 0} (make : ℕ → ℕ → A) (p : ℕ → ℕ → Bool) (n : ℕ) →
     pairs_below make p n 0 ≡ []

@@ -1,6 +1,6 @@
 -- One more command of a pass, and what the pass comes to at the end.
-use Rattle.std.proofs.Common.{◌≡◌, ℕ, zero, suc, ◌+◌, ◌<◌, ◌≤◌, Bool, false, List, [], ◌∷◌}
-use Rattle.std.proofs.Common.{◌++◌}
+use Rattle.std.proofs.Common.{◌≡◌, ℕ, zero, suc, ◌+◌, ◌<◌, ◌≤◌, Bool, true, false, List, [], ◌∷◌}
+use Rattle.std.proofs.Common.{◌++◌, cond, nat_eq}
 use Rattle.std.proofs.Common.{length, map, drop, set, get_or, get_or-set_same, get_or-set_other}
 use Rattle.std.proofs.Common.{refl, sym, ◌∙◌, ap, ap₂, arith, append_assoc, append-nil}
 use Rattle.std.proofs.lemmas.Bool.{eq-eqb, ne_eqb, cases_eq}
@@ -61,7 +61,7 @@ signal_read signals q s within e =
 
 -- ---- one more command
 
-pub begins : (odd : List Bool) (xs zs : Signals) (cs : List Command) →
+pub begins : (odd : List ℕ) (xs zs : Signals) (cs : List Command) →
     ((i j : ℕ) → i < j → j < 256 → is_odd odd i j ≡ false) → xs ≡ none_carried → zs ≡ none_carried →
     LeadsOn [] odd [] xs zs cs cs
 begins odd xs zs cs none x z = record {
@@ -71,7 +71,7 @@ begins odd xs zs cs none x z = record {
   signals = ap₂ (λ (ss ts : Signals). carried ss ts cs) x z;
 }
 
-pub on_prep : (ps : List Command) (odd : List Bool) (ms : List Command) (xs zs : Signals)
+pub on_prep : (ps : List Command) (odd : List ℕ) (ms : List Command) (xs zs : Signals)
     (rest whole : List Command) (q : ℕ) → LeadsOn ps odd ms xs zs (Prep q ∷ rest) whole →
     LeadsOn (ps ++ (Prep q ∷ [])) odd ms xs zs rest whole
 unfolding preparations_of is_edge measured_with carried
@@ -82,7 +82,7 @@ on_prep ps odd ms xs zs rest whole q h = record {
   signals = h.signals;
 }
 
-pub on_ent : (ps : List Command) (odd more : List Bool) (ms : List Command) (xs zs : Signals)
+pub on_ent : (ps : List Command) (odd more : List ℕ) (ms : List Command) (xs zs : Signals)
     (rest whole : List Command) (q r : ℕ) →
     ((i j : ℕ) → i < j → j < 256 → is_odd more i j ≡ is_odd odd i j ⊻ same_pair i j q r) →
     LeadsOn ps odd ms xs zs (Ent q r ∷ rest) whole →
@@ -98,7 +98,7 @@ on_ent ps odd more ms xs zs rest whole q r counted h = record {
   signals = h.signals;
 }
 
-pub on_meas : (ps : List Command) (odd : List Bool) (ms : List Command) (xs zs : Signals)
+pub on_meas : (ps : List Command) (odd : List ℕ) (ms : List Command) (xs zs : Signals)
     (rest whole : List Command) (q a : ℕ) (s t : Signal) →
     LeadsOn ps odd ms xs zs (Meas q a s t ∷ rest) whole →
     LeadsOn ps odd (ms ++ (Meas q a (signal_sum (xs q) s) (signal_sum (zs q) t) ∷ []))
@@ -114,7 +114,7 @@ on_meas ps odd ms xs zs rest whole q a s t h = record {
   signals = h.signals;
 }
 
-pub on_x : (ps : List Command) (odd : List Bool) (ms : List Command) (xs zs : Signals)
+pub on_x : (ps : List Command) (odd : List ℕ) (ms : List Command) (xs zs : Signals)
     (rest whole : List Command) (q : ℕ) (s : Signal) →
     LeadsOn ps odd ms xs zs (FixX q s ∷ rest) whole →
     LeadsOn ps odd ms (joined xs q s) zs rest whole
@@ -126,7 +126,7 @@ on_x ps odd ms xs zs rest whole q s h = record {
   signals = h.signals;
 }
 
-pub on_z : (ps : List Command) (odd : List Bool) (ms : List Command) (xs zs : Signals)
+pub on_z : (ps : List Command) (odd : List ℕ) (ms : List Command) (xs zs : Signals)
     (rest whole : List Command) (q : ℕ) (s : Signal) →
     LeadsOn ps odd ms xs zs (FixZ q s ∷ rest) whole →
     LeadsOn ps odd ms xs (joined zs q s) rest whole
@@ -151,9 +151,18 @@ unfolding corrections_below
 corrections-next ss ts q =
     let e : q + 1 ≡ suc q = omega arith in ap (corrections_below (λ k. false) ss ts) e
 
-pub still_carried : (xs : Signals) (q k : ℕ) → q + 1 ≤ k → handed_out xs q k ≡ xs k
-still_carried xs q k h =
-    let other : k ≡ q → ⊥ = λ e. absurd (omega arith) in rw (ne_eqb k q other) refl
+-- what is handed out once a signal was added, and what is left
+pub handed_sum : (xs : Signals) (q : ℕ) (s : Signal) → joined xs q s q ≡ signal_sum (xs q) s
+handed_sum xs q s = rw (eq-eqb q q refl) refl
+
+pub handed_rest : (xs : Signals) (q : ℕ) (s : Signal) →
+    handed_out (joined xs q s) q ≡ handed_out xs q
+handed_rest xs q s = fun_ext λ k. kept (nat_eq k q) (xs k) (signal_sum (xs q) s)
+  where
+    kept : (same : Bool) (x sum : Signal) →
+        cond same no_signal (cond same sum x) ≡ cond same no_signal x
+    kept true x sum = refl
+    kept false x sum = refl
 
 -- ---- the whole
 
@@ -190,7 +199,7 @@ four_same ps es ms fs ps' es' ms' fs' p e m f =
     (ap₂ (λ (xs ys : List Command). xs ++ ys) e (ap₂ (λ (xs ys : List Command). xs ++ ys) m f))
 
 -- the parts that a pass over a whole valid list has made are those of its standard form
-pub comes_to_standard : OnePass → (inputs n : ℕ) (cs ps es ms fs : List Command) (odd : List Bool)
+pub comes_to_standard : OnePass → (inputs n : ℕ) (cs ps es ms fs : List Command) (odd : List ℕ)
     (xs zs : Signals) → IsValid inputs cs → n ≡ inputs + prepared cs → n ≤ 256 →
     LeadsOn ps odd ms xs zs [] cs → es ≡ pairs_below Ent (is_odd odd) n n →
     fs ≡ corrections_below (λ q. false) xs zs n →

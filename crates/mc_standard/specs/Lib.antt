@@ -1,8 +1,10 @@
 pub mod Changes
+pub mod NextBits
 pub mod OddPairs
 pub mod Places
 pub mod Plain
 pub mod Running
 pub mod StandardForms
 pub mod Stepping
+pub mod Sums
 pub mod Uses

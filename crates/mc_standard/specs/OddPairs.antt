@@ -1,5 +1,6 @@
--- A table of bits, one for each pair of numbers below 256, the lower one first.
-use Rattle.std.specs.Prelude.{ℕ, ◌+◌, ◌*◌, Bool, false, List, slice_get, unwrap_or}
+-- A table of bits in words, one for each pair of numbers below 256, the lower one first.
+use Rattle.std.specs.Prelude.{ℕ, ◌+◌, ◌*◌, Bool, List}
+use Rattle.mc_bits.specs.Words.{word_bit}
 
-abbrev pub is_odd : List Bool → ℕ → ℕ → Bool
-is_odd bits i j = unwrap_or (slice_get bits (i * 256 + j)) false
+abbrev pub is_odd : List ℕ → ℕ → ℕ → Bool
+is_odd words i j = word_bit words (i * 256 + j)

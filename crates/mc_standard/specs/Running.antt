@@ -1,5 +1,5 @@
 -- What one pass over a list of commands has come to, and what it leads to.
-use Rattle.std.specs.Prelude.{◌≡◌, ℕ, ◌<◌, Bool, List, [], ◌∷◌, ◌++◌, length, map, slice_get}
+use Rattle.std.specs.Prelude.{◌≡◌, ℕ, ◌<◌, List, [], ◌∷◌, ◌++◌, length, map, slice_get}
 use Rattle.std.specs.Prelude.{unwrap_or, ⊤}
 use Rattle.mc_model.specs.Bits.{◌⊻◌}
 use Rattle.mc_model.specs.Signals.{Signal, Signals, no_signal}
@@ -28,7 +28,7 @@ AllBelow n (c ∷ cs) = OperandsBelow n c × AllBelow n cs
 
 -- a pass that has made preparations, a table of entangled pairs and measurements, and carries two
 -- signals for each qubit, goes on with `rest` and comes to what one pass over `whole` comes to
-pub record LeadsOn (ps : List Command) (odd : List Bool) (ms : List Command) (xs zs : Signals)
+pub record LeadsOn (ps : List Command) (odd : List ℕ) (ms : List Command) (xs zs : Signals)
     (rest whole : List Command) : Type 0 where
   pub preparations : ps ++ preparations_of rest ≡ preparations_of whole
   pub edges : (i j : ℕ) → i < j → j < 256 →
@@ -45,4 +45,4 @@ LeadsTo {h} pass rest whole =
 -- a bit for each pair, and a signal of each kind for each qubit
 abbrev pub IsRoomy : {h : ℕ} → Pass h → Type 0
 IsRoomy pass =
-    (length pass.odd.items ≡ 65536) × (length pass.xs.items ≡ 256) × (length pass.zs.items ≡ 256)
+    (length pass.odd.items ≡ 1024) × (length pass.xs.items ≡ 256) × (length pass.zs.items ≡ 256)

@@ -6,6 +6,7 @@
 #![tactic(auto)]
 
 mod apply;
+mod bits;
 mod change;
 mod copy;
 mod listing;
@@ -18,6 +19,7 @@ mod search;
 mod signals;
 mod standard;
 mod standardisation;
+mod sum;
 #[cfg(test)]
 mod tests;
 
@@ -25,3 +27,4 @@ pub use rewriter::Rewriter;
 pub use rule::{Rule, Use};
 pub use standard::{Fix, Measure, Standard};
 pub use standardisation::standardise;
+pub use sum::Sum;

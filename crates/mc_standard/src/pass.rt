@@ -7,11 +7,11 @@ ghost use Rattle.mc_standard.specs.Running.{OperandsBelow, AllBelow, IsRoomy, Le
 
 use crate::listing::append;
 use crate::pairs::{no_pairs, toggle};
-use crate::signals::{add, hand_on, no_signals, take_with};
+use crate::signals::{add, hand_on, no_sums, take_with};
 use crate::standard::Measure;
+use crate::sum::Sum;
 use mc_model::Memory;
 use mc_pattern::Command;
-use mc_signal::Signal;
 use std::alloc::Global;
 
 /// What a pass has come to: preparations, the pairs that are entangled, measurements, and for each
@@ -19,10 +19,10 @@ use std::alloc::Global;
 #[derive(Drop)]
 pub(crate) struct Pass<const H: usize> {
     pub(crate) preps: Vec<u16>,
-    pub(crate) odd: Vec<bool>,
+    pub(crate) odd: Vec<u64>,
     pub(crate) measures: Vec<Measure<H>>,
-    pub(crate) xs: Vec<Signal>,
-    pub(crate) zs: Vec<Signal>,
+    pub(crate) xs: Vec<Sum>,
+    pub(crate) zs: Vec<Sum>,
 }
 
 impl<const H: usize> Pass<H> {
@@ -34,14 +34,14 @@ impl<const H: usize> Pass<H> {
             preps: Vec::new(alloc),
             odd: no_pairs(alloc)?,
             measures: Vec::new(alloc),
-            xs: no_signals(alloc)?,
-            zs: no_signals(alloc)?,
+            xs: no_sums(alloc)?,
+            zs: no_sums(alloc)?,
         })
     }
 
     /// Goes on over a command: corrections are added up, at an entangling each operand's `X` goes
     /// over to the other's `Z`, and a measurement takes the two over.
-    fn go_on(&mut self, command: &Command<H>) -> Result<(), Memory>
+    fn go_on(&mut self, alloc: Global, command: &Command<H>) -> Result<(), Memory>
         requires roomy { IsRoomy self.old }
         requires below { OperandsBelow 256 (plain_command command.now) }
         ensures roomy { OnOk result (IsRoomy self.new) }
@@ -53,11 +53,11 @@ impl<const H: usize> Pass<H> {
             Command::Prep(q) => append(&mut self.preps, *q)?,
             Command::Ent(q, r) => {
                 toggle(&mut self.odd, *q, *r);
-                hand_on(self.xs.as_slice(), &mut self.zs, *q, *r)?;
+                hand_on(self.xs.as_slice(), &mut self.zs, *q, *r);
             }
             Command::Meas { q, angle, s, t } => {
-                let s = take_with(&mut self.xs, *q, s)?;
-                let t = take_with(&mut self.zs, *q, t)?;
+                let s = take_with(alloc, &mut self.xs, *q, s)?;
+                let t = take_with(alloc, &mut self.zs, *q, t)?;
                 let measure = Measure {
                     q: *q,
                     angle: *angle,
@@ -66,8 +66,8 @@ impl<const H: usize> Pass<H> {
                 };
                 append(&mut self.measures, measure)?;
             }
-            Command::FixX { q, s } => add(&mut self.xs, *q, s)?,
-            Command::FixZ { q, s } => add(&mut self.zs, *q, s)?,
+            Command::FixX { q, s } => add(&mut self.xs, *q, s),
+            Command::FixZ { q, s } => add(&mut self.zs, *q, s),
         }
         Ok(())
     }
@@ -84,7 +84,7 @@ pub(crate) fn pass_over<const H: usize>(
 {
     let mut pass = Pass::new(alloc)?;
     'commands: for command in commands {
-        pass.go_on(command)?;
+        pass.go_on(alloc, command)?;
     }
     Ok(pass)
 }

@@ -1,4 +1,4 @@
-//! A signal for each qubit.
+//! A sum of signals for each qubit.
 
 ghost use Rattle.std.specs.Prelude.{◌≡◌, ◌<◌, ◌≤◌, ◌++◌, false, length, map, IfOk, OnOk};
 ghost use Rattle.mc_model.specs.Signals.{signal_sum};
@@ -9,6 +9,7 @@ ghost use Rattle.mc_standard.specs.Plain.{plain_fix};
 
 use crate::listing::append;
 use crate::standard::Fix;
+use crate::sum::Sum;
 use mc_model::Memory;
 use mc_signal::Signal;
 use std::alloc::Global;
@@ -16,63 +17,77 @@ use std::alloc::Global;
 /// The most qubits of a pattern.
 const MOST_QUBITS: u16 = 256;
 
-/// An empty signal for each qubit.
-pub(crate) fn no_signals(alloc: Global) -> Result<Vec<Signal>, Memory>
-    ensures long { IfOk result (λ signals. length signals.items ≡ 256) }
-    ensures none { IfOk result (λ signals. signals_of signals.items ≡ none_carried) }
+/// An empty sum for each qubit.
+pub(crate) fn no_sums(alloc: Global) -> Result<Vec<Sum>, Memory>
+    ensures long { IfOk result (λ sums. length sums.items ≡ 256) }
+    ensures none { IfOk result (λ sums. signals_of sums.items ≡ none_carried) }
 {
-    let mut signals = Vec::new(alloc);
+    let mut sums = Vec::new(alloc);
     'qubits: for _ in 0..MOST_QUBITS {
-        append(&mut signals, Signal::empty(alloc))?;
+        append(&mut sums, Sum::new())?;
     }
-    Ok(signals)
+    Ok(sums)
 }
 
-/// Adds to the signal of a qubit.
-pub(crate) fn add(signals: &mut Vec<Signal>, q: u16, s: &Signal) -> Result<(), Memory>
-    requires { q < length signals.old.items }
-    ensures long { OnOk result (length signals.new.items ≡ length signals.old.items) }
-    ensures sum { OnOk result
-        (signals_of signals.new.items ≡ joined (signals_of signals.old.items) q s.now) }
+/// Adds to the sum of a qubit.
+pub(crate) fn add(sums: &mut Vec<Sum>, q: u16, s: &Signal)
+    requires { q < length sums.old.items }
+    ensures long { length sums.new.items ≡ length sums.old.items }
+    ensures sum { signals_of sums.new.items ≡ joined (signals_of sums.old.items) q s.now }
 {
-    signals[q as usize].add(s)?;
-    Ok(())
+    sums[q as usize].add(s);
 }
 
-/// Hands out the signal of a qubit.
-fn take(signals: &mut Vec<Signal>, q: u16) -> Signal
-    requires { q < length signals.old.items }
-    ensures long { length signals.new.items ≡ length signals.old.items }
-    ensures signal { result ≡ signals_of signals.old.items q }
-    ensures rest { signals_of signals.new.items ≡ handed_out (signals_of signals.old.items) q }
+/// Adds a sum to that of a qubit.
+fn add_sum(sums: &mut Vec<Sum>, q: u16, s: &Sum)
+    requires { q < length sums.old.items }
+    ensures long { length sums.new.items ≡ length sums.old.items }
+    ensures sum { signals_of sums.new.items ≡ joined (signals_of sums.old.items) q s.now }
 {
-    signals[q as usize].take()
+    sums[q as usize].add_sum(s);
 }
 
-/// Hands out the signal of a qubit, with one added.
-pub(crate) fn take_with(signals: &mut Vec<Signal>, q: u16, s: &Signal) -> Result<Signal, Memory>
-    requires { q < length signals.old.items }
-    ensures long { OnOk result (length signals.new.items ≡ length signals.old.items) }
-    ensures sum { IfOk result (λ sum. sum ≡ signal_sum (signals_of signals.old.items q) s.now) }
+/// Hands out the sum of a qubit.
+fn take(alloc: Global, sums: &mut Vec<Sum>, q: u16) -> Result<Signal, Memory>
+    requires { q < length sums.old.items }
+    ensures long { OnOk result (length sums.new.items ≡ length sums.old.items) }
+    ensures signal { IfOk result (λ signal. signal ≡ signals_of sums.old.items q) }
     ensures rest { OnOk result
-        (signals_of signals.new.items ≡ handed_out (signals_of signals.old.items) q) }
+        (signals_of sums.new.items ≡ handed_out (signals_of sums.old.items) q) }
 {
-    let mut sum = take(signals, q);
-    sum.add(s)?;
-    Ok(sum)
+    let signal = sums[q as usize].signal(alloc)?;
+    sums[q as usize] = Sum::new();
+    Ok(signal)
 }
 
-/// At an entangling the `X` signal of each operand is added to the `Z` signal of the other.
-pub(crate) fn hand_on(xs: &[Signal], zs: &mut Vec<Signal>, q: u16, r: u16) -> Result<(), Memory>
+/// Hands out the sum of a qubit, with a signal added.
+pub(crate) fn take_with(
+    alloc: Global,
+    sums: &mut Vec<Sum>,
+    q: u16,
+    s: &Signal,
+) -> Result<Signal, Memory>
+    requires { q < length sums.old.items }
+    ensures long { OnOk result (length sums.new.items ≡ length sums.old.items) }
+    ensures sum { IfOk result (λ sum. sum ≡ signal_sum (signals_of sums.old.items q) s.now) }
+    ensures rest { OnOk result
+        (signals_of sums.new.items ≡ handed_out (signals_of sums.old.items) q) }
+{
+    add(sums, q, s);
+    take(alloc, sums, q)
+}
+
+/// At an entangling the `X` sum of each operand is added to the `Z` sum of the other.
+pub(crate) fn hand_on(xs: &[Sum], zs: &mut Vec<Sum>, q: u16, r: u16)
     requires long { length zs.old.items ≡ length xs.now }
     requires first { q < length xs.now }
     requires second { r < length xs.now }
-    ensures long { OnOk result (length zs.new.items ≡ length zs.old.items) }
-    ensures handed { OnOk result
-        (signals_of zs.new.items ≡ handed (signals_of xs.now) (signals_of zs.old.items) q r) }
+    ensures long { length zs.new.items ≡ length zs.old.items }
+    ensures handed { signals_of zs.new.items
+        ≡ handed (signals_of xs.now) (signals_of zs.old.items) q r }
 {
-    add(zs, q, &xs[r as usize])?;
-    add(zs, r, &xs[q as usize])
+    add_sum(zs, q, &xs[r as usize]);
+    add_sum(zs, r, &xs[q as usize]);
 }
 
 /// Adds an `X`, unless its signal is empty.
@@ -97,22 +112,22 @@ fn push_z(fixes: &mut Vec<Fix>, q: u16, s: Signal) -> Result<(), Memory>
     append(fixes, Fix::Z { q, s })
 }
 
-/// The corrections by rising qubit, `X` before `Z`, to which the signals go over.
+/// The corrections by rising qubit, `X` before `Z`, by the sums.
 pub(crate) fn fixes_of(
     alloc: Global,
-    xs: &mut Vec<Signal>,
-    zs: &mut Vec<Signal>,
+    xs: &[Sum],
+    zs: &[Sum],
     qubits: u16,
 ) -> Result<Vec<Fix>, Memory>
-    requires first { qubits ≤ length xs.old.items }
-    requires second { qubits ≤ length zs.old.items }
+    requires first { qubits ≤ length xs.now }
+    requires second { qubits ≤ length zs.now }
     ensures { IfOk result (λ fixes. map plain_fix fixes.items ≡
-        corrections_below (λ q. false) (signals_of xs.old.items) (signals_of zs.old.items) qubits) }
+        corrections_below (λ q. false) (signals_of xs.now) (signals_of zs.now) qubits) }
 {
     let mut fixes = Vec::new(alloc);
     'qubits: for q in 0..qubits {
-        push_x(&mut fixes, q, take(xs, q))?;
-        push_z(&mut fixes, q, take(zs, q))?;
+        push_x(&mut fixes, q, xs[q as usize].signal(alloc)?)?;
+        push_z(&mut fixes, q, zs[q as usize].signal(alloc)?)?;
     }
     Ok(fixes)
 }

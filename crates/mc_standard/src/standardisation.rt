@@ -33,8 +33,8 @@ pub fn standardise<const H: usize>(alloc: Global, p: &Pattern<H>) -> Result<Stan
         preps,
         odd,
         measures,
-        mut xs,
-        mut zs,
+        xs,
+        zs,
     } = pass_over(alloc, p.commands())?;
     Ok(Standard {
         names,
@@ -43,6 +43,6 @@ pub fn standardise<const H: usize>(alloc: Global, p: &Pattern<H>) -> Result<Stan
         preps,
         edges: edges_of(alloc, odd.as_slice(), qubits)?,
         measures,
-        fixes: fixes_of(alloc, &mut xs, &mut zs, qubits)?,
+        fixes: fixes_of(alloc, xs.as_slice(), zs.as_slice(), qubits)?,
     })
 }

@@ -195,3 +195,18 @@ fn lists_a_standard_form(rt: HostRuntime) -> Result<(), Fail> {
     assert!(rt; is_two_j_standard(pattern.commands()));
     Ok(())
 }
+
+#[test]
+fn adds_up_signals(rt: HostRuntime) -> Result<(), Fail> {
+    let alloc = rt.alloc();
+    let mut sum = Sum::of(&one(alloc, 70)?);
+    sum.add(&one(alloc, 3)?);
+    sum.add(&Signal::one(alloc));
+    let mut other = Sum::new();
+    other.add(&one(alloc, 255)?);
+    other.add(&one(alloc, 70)?);
+    sum.add_sum(&other);
+    let signal = sum.signal(alloc)?;
+    assert!(rt; has_just(&signal, &[3, 255]) && signal.constant());
+    Ok(())
+}

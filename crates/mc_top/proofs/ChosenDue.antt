@@ -1,4 +1,4 @@
--- Something is due where the answer is what is chosen of a graph, since that exists.
+-- Something is due where the answer is what is chosen of a graph, or a derivation: that exists.
 use Rattle.std.proofs.Common.{◌≡◌, ℕ, zero, suc, ◌<◌, ◌≤◌, List, Bool, true, false, nat_lt}
 use Rattle.std.proofs.Common.{length, Option, Some, None, IsTrue, refl, arith, inl, inr, [], ◌∷◌}
 use Rattle.std.proofs.Common.{codes}
@@ -12,19 +12,22 @@ use Rattle.mc_model.specs.Graph.{OpenGraph, graph_of, size, IsOpenGraph}
 use Rattle.mc_model.specs.Laws.{ChosenFlowsAreFlows}
 use Rattle.mc_model.specs.Made.{extracted_circuit, flow_pattern}
 use Rattle.mc_model.specs.Pattern.{Circuit, Pattern}
-use Rattle.mc_model.specs.StandardForm.{standard_form}
+use Rattle.mc_model.specs.StandardForm.{standard_commands, standard_form}
 use Rattle.mc_model.specs.Steps.{is_permitted}
 use Rattle.mc_model.specs.Translation.{qubit_count, translation}
 use Rattle.mc_model.specs.Valid.{IsValidCircuit, IsValidPattern}
-use Rattle.mc_chosen.specs.Laws.{CausalFlowsOrStuckSetsExist, FlowsOrRefutersExist}
-use Rattle.mc_chosen.specs.Laws.{HasChosenRefuter}
+use Rattle.mc_cert.specs.Laws.{ShortBoundsAreFew}
+use Rattle.mc_chosen.specs.Laws.{CausalFlowsOrStuckSetsExist, ChosenFlowsHaveBounds}
+use Rattle.mc_chosen.specs.Laws.{FlowsOrRefutersExist, HasChosenRefuter}
 use Rattle.mc_circuit.specs.Canonical.{circuit_text}
+use Rattle.mc_derivations.specs.Laws.{PlacesStaySmall}
 use Rattle.mc_graph.specs.Flows.{layer_in, next_in, sets_in}
 use Rattle.mc_graph.specs.Laws.{GraphsKeepZeroBranch}
 use Rattle.mc_make.specs.Laws.{FlowPatternsAreValid}
 use Rattle.mc_pattern_text.specs.Canonical.{pattern_text}
 use Rattle.mc_rules.specs.Laws.{StandardIsStandard}
 use Rattle.mc_shift.specs.Laws.{HasOneShiftedForm}
+use Rattle.mc_trace.specs.Laws.{DerivationsExist}
 use Rattle.mc_translate.specs.Laws.{TranslationsAreValid, TranslationsHaveFlows}
 use Rattle.mc_text.specs.Judged.{Place, Words}
 use Rattle.mc_text.specs.Heads.{is_word}
@@ -34,7 +37,7 @@ use Rattle.mc_cert_text.specs.Certs as cert
 use Rattle.mc_document.specs.Documents as document
 use Rattle.mc_document.specs.Documents.{document_text, IsDocument, PlainDocument}
 use Rattle.mc_document.specs.declared.takes.Takes as takes
-use Rattle.mc_document.specs.Kinds.{every_source, IsTaken}
+use Rattle.mc_document.specs.Kinds.{circuits_and_patterns, every_source, IsTaken}
 use Rattle.mc_document.specs.Places.{first_place}
 use Rattle.mc_document.specs.Sections.{first_in_text, spelled}
 use Rattle.mc_document.specs.Turns.{first_words, half_of}
@@ -45,12 +48,17 @@ use Rattle.mc_top.specs.Due.{Due, answer, holding}
 use Rattle.mc_top.specs.Extract.{gate_limit, IsExtractDue, IsExtractionDue}
 use Rattle.mc_top.specs.Flow.{IsFoundDue, IsRefuterDue}
 use Rattle.mc_top.specs.GraphSource.{source_graph}
+use Rattle.mc_top.specs.Least.{IsBoundFoundDue, IsLeastDue, size_limit}
 use Rattle.mc_top.specs.Make.{IsMakingDue}
 use Rattle.mc_top.specs.Serve.{IsDue, IsDueIn, IsDueSpelled, too_long}
 use Rattle.mc_top.specs.Source.{source_limit, translation_limit}
+use Rattle.mc_top.specs.Trace.{IsDueTrace, IsTraceDue, IsTracedText, trace_limit}
+use Rattle.mc_top.proofs.BoundsFit.{bound_fits, few_vertices}
 use Rattle.mc_top.proofs.FlowsFit.{chosen_of, lines_fit, numbers_fit}
 use Rattle.mc_top.proofs.Serving.{AreSeen, AreTaken, command_due, none_answered, spelled_due}
 use Rattle.mc_top.proofs.Serving.{unless_due}
+use Rattle.mc_top.proofs.TraceLimits.{within_few}
+use Rattle.mc_top.proofs.Tracing.{places_fit}
 
 -- what is proved of the pattern that a circuit is compiled into
 pub record FormLaws : Type 0 where
@@ -61,10 +69,14 @@ pub record FormLaws : Type 0 where
   pub standard_valid : StandardIsStandard
   pub one_form : HasOneShiftedForm
 
--- what exists of graphs and of circuits
+-- what exists of graphs, of patterns and of circuits
 pub record ChosenLaws : Type 0 where
   pub flows : FlowsOrRefutersExist
   pub causal : CausalFlowsOrStuckSetsExist
+  pub bounds : ChosenFlowsHaveBounds
+  pub few_bounds : ShortBoundsAreFew
+  pub derivations : DerivationsExist
+  pub small_places : PlacesStaySmall
   pub translation_flow : TranslationsHaveFlows
   pub forms : FormLaws
 
@@ -162,6 +174,66 @@ module _ (laws : ChosenLaws) (half : ℕ) where
   extract_due : (g : OpenGraph) → (due : Due) × IsExtractDue half g due
   extract_due g = unless_due (gate_limit g) (IsExtractionDue half g) (λ none. extraction_due g)
 
+  bound_due : (g : OpenGraph) → size g ≤ 64 → (due : Due) × IsBoundFoundDue half g due
+  bound_due g few = elim (laws.flows g) [
+    | inl h ↦
+        let b = laws.bounds g h.rows h.chosen in
+        let fits = bound_fits laws.few_bounds g h.rows b.rows few h.chosen b.chosen in (
+          answer (document_text half (document.graph g (Some (cert.least b.rows)))) true,
+          inl (record {
+            flow = h.rows;
+            chosen = h.chosen;
+            bound = b.rows;
+            bounds = b.chosen;
+            fits = record {
+              inside = fits.0;
+              numbers = fits.1;
+              own = (b.chosen.own, b.chosen.order.members);
+            };
+            text = refl;
+          }),
+        )
+    | inr h ↦ let refuter = refuter_due g h in (refuter.0, inr refuter.1)
+  ]
+
+  least_due : (g : OpenGraph) → (due : Due) × IsLeastDue half g due
+  least_due g =
+      unless_due (size_limit g) (IsBoundFoundDue half g) (λ none. bound_due g (few_vertices g none))
+
+  -- ---- what is due for a pattern
+
+  derivation_due : (p : Pattern) → IsValidPattern p → length p.commands ≤ 64 →
+      (due : Due) × IsTracedText half p due
+  derivation_due p valid few =
+      let led = laws.derivations p.inputs p.commands valid.commands few in
+      let form = standard_commands p.inputs p.commands in (
+        holding (document_text half (document.traced p led.0)),
+        record {
+          uses = led.0;
+          leads = led.1;
+          fits = places_fit led.0 led.1.few
+              (laws.small_places p.inputs led.0 p.commands form led.1.derives few);
+          text = refl;
+        },
+      )
+
+  pattern_due : (p : Pattern) → IsValidPattern p → (due : Due) × IsTraceDue half p due
+  pattern_due p valid =
+      unless_due (trace_limit p) (IsTracedText half p)
+      (λ none. derivation_due p valid (within_few p none))
+
+  trace_due : (d : PlainDocument) → IsDocument half d → IsTaken circuits_and_patterns d →
+      (due : Due) × IsDueTrace half d due
+  trace_due (document.circuit c) valid taken =
+      unless_due (translation_limit c) (IsTraceDue half (translation half c))
+      (λ none. pattern_due (translation half c)
+      (laws.forms.translation_valid half c valid.valid (few_qubits c none)))
+  trace_due (document.pattern p change) valid taken = pattern_due p valid.0.valid
+  trace_due (document.traced p uses) valid taken = pattern_due p valid.0.valid
+  trace_due (document.two p q line column) valid taken = absurd (cc taken.1)
+  trace_due (document.graph g c) valid taken = absurd (cc taken.0)
+  trace_due (document.gates g) valid taken = absurd (cc taken)
+
   -- ---- what is due for a circuit
 
   module _ (permitted : IsTrue (is_permitted half)) where
@@ -225,22 +297,23 @@ module _ (laws : ChosenLaws) (half : ℕ) where
     source_few (document.gates g) valid taken none = absurd (cc taken)
 
     chosen_due : (asked : Asked) (place : Place) (d : PlainDocument) → chooses asked ≡ true →
-        (asked ≡ trace → ⊥) → (asked ≡ least → ⊥) →
         IsDocument half d → IsTaken (command_of asked).takes d →
         (due : Due) × (command_of asked).IsDue half place d due
-    chosen_due flow place d e other more valid taken =
+    chosen_due flow place d e valid taken =
         unless_due (source_limit d) (IsFoundDue half (source_graph half d))
         (λ none. flow_due (source_graph half d) (source_few d valid taken none))
-    chosen_due make place d e other more valid taken =
+    chosen_due make place d e valid taken =
         unless_due (source_limit d) (IsMakingDue half (source_graph half d))
         (λ none. make_due (source_graph half d))
-    chosen_due extract place d e other more valid taken =
+    chosen_due extract place d e valid taken =
         unless_due (source_limit d) (IsExtractDue half (source_graph half d))
         (λ none. extract_due (source_graph half d))
-    chosen_due compile place d e other more valid taken = compile_due d valid taken
-    chosen_due trace place d e other more valid taken = absurd (other refl)
-    chosen_due least place d e other more valid taken = absurd (more refl)
-    chosen_due _ place d e other more valid taken = absurd (cc e)
+    chosen_due compile place d e valid taken = compile_due d valid taken
+    chosen_due trace place d e valid taken = trace_due d valid taken
+    chosen_due least place d e valid taken =
+        unless_due (source_limit d) (IsLeastDue half (source_graph half d))
+        (λ none. least_due (source_graph half d))
+    chosen_due _ place d e valid taken = absurd (cc e)
 
 -- ---- what is due for a text
 
@@ -255,10 +328,9 @@ both_some None P Q h k = absurd h
 both_some (Some x) P Q h k = (h, k)
 
 pub in_due : ChosenLaws → AreSeen → AreTaken → AreValid → (half : ℕ) (asked : Asked)
-    (text : List ℕ) → (asked ≡ trace → ⊥) → (asked ≡ least → ⊥) →
-    (chooses asked ≡ true → IsTrue (is_permitted half)) →
+    (text : List ℕ) → (chooses asked ≡ true → IsTrue (is_permitted half)) →
     (due : Due) × IsDueIn half asked text due
-in_due laws seen are_taken are_valid half asked text other more permitted =
+in_due laws seen are_taken are_valid half asked text permitted =
     unless_due (answered (first_in_text half kinds text)) (IsDueSpelled half asked text)
     (λ none.
     let clean = none_answered (first_in_text half kinds text) none in
@@ -279,8 +351,7 @@ in_due laws seen are_taken are_valid half asked text other more permitted =
         ((command_of asked).IsDue half (first_place text))
         (both_some (spelled half text) (IsDocument half) (IsTaken kinds)
         (are_valid half (permitted e) kinds text clean) taken)
-        (λ d here. chosen_due laws half (permitted e) asked (first_place text) d e other more
-        here.0 here.1)
+        (λ d here. chosen_due laws half (permitted e) asked (first_place text) d e here.0 here.1)
 
 -- the steps that a text says are permitted
 by_number : (number : List ℕ) → IsTrue (is_permitted (half_by number))
@@ -306,8 +377,8 @@ pub half_permitted : (text : List ℕ) → IsTrue (is_permitted (half_of text))
 half_permitted text = by_words (first_words (lines_of text))
 
 pub of_due : ChosenLaws → AreSeen → AreTaken → AreValid → (asked : Asked) (text : List ℕ) →
-    (asked ≡ trace → ⊥) → (asked ≡ least → ⊥) → (due : Due) × IsDue asked text due
-of_due laws seen are_taken are_valid asked text other more =
+    (due : Due) × IsDue asked text due
+of_due laws seen are_taken are_valid asked text =
     unless_due (too_long text) (IsDueIn (half_of text) asked text)
-    (λ short. in_due laws seen are_taken are_valid (half_of text) asked text other more
+    (λ short. in_due laws seen are_taken are_valid (half_of text) asked text
     (λ e. half_permitted text))

@@ -13,8 +13,7 @@ use Rattle.mc_model.specs.Graph.{OpenGraph, size, is_output}
 use Rattle.mc_model.specs.Choice.{SameBelow, IsLaterNumber}
 use Rattle.mc_model.specs.Depth.{KeepsAbove}
 use Rattle.mc_graph.specs.Flows.{FlowRows, IsChosenFlowOf, layer_in, sets_in}
-use Rattle.mc_cert.specs.declared.rows.LayerRow.{LayerRow}
-use Rattle.mc_cert.specs.declared.rows.BoundRow.{BoundRow}
+use Rattle.mc_cert.specs.BoundRecords.{LayerRow, BoundRow}
 use Rattle.mc_cert.specs.BoundRules.{IsAsked, stated_in, keeping_in, is_for, AreApart}
 use Rattle.mc_cert.specs.Bounds.{BoundRows}
 use Rattle.mc_least.specs.Listed.{ComesBefore, Rises}

@@ -10,7 +10,6 @@ use Rattle.mc_model.specs.Valid.{IsValidPattern}
 use Rattle.mc_model.specs.StandardForm.{standard_form}
 use Rattle.mc_model.specs.Shift.{new_outcomes, change_of, IsShiftedForm}
 use Rattle.mc_shift.specs.Shifted.{shifted_form}
-use Rattle.mc_shift.proofs.ShiftedForm.{form_exists}
 use Rattle.std.specs.declared.vec.Vec.{Vec}
 use Rattle.std.specs.declared.alloc.Global.{Global}
 use Rattle.mc_lex.specs.declared.end.TextEnd.{TextEnd}
@@ -39,9 +38,13 @@ on_told made (Ok a) P same p =
     subst (λ (r : Result (Vec ℕ Global) Memory). OnOk r P) same p
 on_told made (Err e) P same p = tt
 
-pub is_shifted_form : (p q : Pattern) → IsValidPattern p →
+-- putting signals in for qubits gives the shifted form
+abbrev pub GivesShiftedForms : Type 0
+GivesShiftedForms = (p : Pattern) → IsValidPattern p → IsShiftedForm p (shifted_form p)
+
+pub is_shifted_form : GivesShiftedForms → (p q : Pattern) → IsValidPattern p →
     ((r : Pattern) → IsShiftedForm p r → r ≡ q) → shifted_form p ≡ q
-is_shifted_form p q valid only = only (shifted_form p) (form_exists p valid)
+is_shifted_form gives p q valid only = only (shifted_form p) (gives p valid)
 
 alike_then : {E : Type 0} (ops : PhaseOps E) (p q r : Pattern) (o new : Bits) →
     AlikeBranches ops p o q o →
@@ -54,14 +57,15 @@ alike_then ops p q r o new alike same = record {
 }
 
 -- `s` is the standard form of `p`, and `q` the shifted form of `s`
-pub shifted_by : (half : ℕ) (p s q : Pattern) → IsValidPattern s → s ≡ standard_form p →
+pub shifted_by : GivesShiftedForms → (half : ℕ) (p s q : Pattern) → IsValidPattern s →
+    s ≡ standard_form p →
     ((r : Pattern) → IsShiftedForm s r → r ≡ q) →
     ((o : Bits) → AlikeBranches (ring half) p o s o) →
     ((o : Bits) (y : List Bool) (b : Bits) → branch_map (ring half) s o y b
     ≡ branch_map (ring half) q (new_outcomes (change_of s.commands) o) y b) →
     IsShiftedBy half p (shifted_form (standard_form p))
-shifted_by half p s q valid form only alike maps = record {
-  form = subst (λ (t : Pattern). IsShiftedForm t (shifted_form t)) form (form_exists s valid);
+shifted_by gives half p s q valid form only alike maps = record {
+  form = subst (λ (t : Pattern). IsShiftedForm t (shifted_form t)) form (gives s valid);
   alike = λ o.
       subst
       (λ (t : Pattern).
@@ -69,6 +73,6 @@ shifted_by half p s q valid form only alike maps = record {
       form
       (subst
       (λ (r : Pattern). AlikeBranches (ring half) p o r (new_outcomes (change_of s.commands) o))
-      (sym (is_shifted_form s q valid only))
+      (sym (is_shifted_form gives s q valid only))
       (alike_then (ring half) p s q o (new_outcomes (change_of s.commands) o) (alike o) (maps o)));
 }

@@ -3,13 +3,16 @@
 ghost use Rattle.std.specs.Prelude.{◌≡◌, true, ℕ, List, IsTrue};
 ghost use Rattle.mc_model.specs.Graph.{OpenGraph};
 ghost use Rattle.mc_model.specs.Steps.{is_permitted};
-ghost use Rattle.mc_top.specs.Commands.{Asked, chooses, least, trace};
+ghost use Rattle.mc_top.specs.Commands.{Asked, chooses, trace};
 ghost use Rattle.mc_top.specs.Due.{Due};
 ghost use Rattle.mc_top.specs.Flow.{MeansFound};
 ghost use Rattle.mc_top.specs.Least.{BoundsHold, MeansBound};
 ghost use Rattle.mc_top.specs.Serve.{IsDue, IsDueIn};
 
-use mc_chosen::{causal_flows_or_stuck_sets_exist, flows_or_refuters_exist};
+use mc_cert::short_bounds_are_few;
+use mc_chosen::{
+    causal_flows_or_stuck_sets_exist, chosen_flows_have_bounds, flows_or_refuters_exist,
+};
 use mc_document::{clean_texts_spell_documents, taken_documents_are_seen};
 use mc_extract::{
     chosen_causal_flows_are_flows, chosen_causal_flows_are_unique, chosen_stuck_sets_are_unique,
@@ -19,23 +22,26 @@ use mc_make::{chosen_flows_are_least_deep, flow_patterns_are_valid};
 use mc_model::{chosen_flows_are_flows, depth_bounds_hold, refuters_exclude_flows};
 use mc_rules::standard_is_standard;
 use mc_shift::has_one_shifted_form;
-use mc_trace::every_trace_is_judged;
+use mc_trace::{derivations_exist, derivations_stay_short, every_trace_is_judged};
 use mc_translate::{translations_are_valid, translations_have_flows};
 
 /// Something is due for every text, whatever command is asked for: what a command can't meet is ruled out by what it takes,
-/// and what is chosen of a graph exists. So it is in any step, but where something is chosen in the permitted ones alone. That
-/// there is a derivation, or a chosen bound, is said by what makes it.
+/// and what is chosen of a graph exists, and a derivation of the standard form within its bounds. So it is in any step, but
+/// where something is chosen or derived in the permitted ones alone.
 pub fn something_is_due()
-    ensures for_text { (asked : Asked) (text : List ℕ) → (asked ≡ trace → ⊥) → (asked ≡ least → ⊥) →
-        (due : Due) × IsDue asked text due }
-    ensures in_step { (half : ℕ) (asked : Asked) (text : List ℕ) → (asked ≡ trace → ⊥) →
-        (asked ≡ least → ⊥) → (chooses asked ≡ true → IsTrue (is_permitted half)) →
+    ensures for_text { (asked : Asked) (text : List ℕ) → (due : Due) × IsDue asked text due }
+    ensures in_step { (half : ℕ) (asked : Asked) (text : List ℕ) →
+        (chooses asked ≡ true → IsTrue (is_permitted half)) →
         (due : Due) × IsDueIn half asked text due }
 {
     clean_texts_spell_documents();
     taken_documents_are_seen();
     flows_or_refuters_exist();
     causal_flows_or_stuck_sets_exist();
+    chosen_flows_have_bounds();
+    short_bounds_are_few();
+    derivations_exist();
+    derivations_stay_short();
     chosen_flows_are_flows();
     translations_are_valid();
     translations_have_flows();

@@ -39,4 +39,4 @@ pub use laws::{bounds_mean_depths, findings_mean_flows, one_thing_is_due, someth
 pub use mc_document::{Document, Takes, read_document, turn_of};
 pub use status::Status;
 pub use task::Task;
-pub use top::serve;
+pub use top::{serve, write_note};

@@ -15,7 +15,7 @@ use mc_document::{Document, print_with_change};
 use mc_lex::TextEnd;
 use mc_model::Memory;
 use mc_pattern::Pattern;
-use mc_shift::shift;
+use mc_shift::{has_one_shifted_form, shift};
 use mc_standard::standardise;
 use std::alloc::Global;
 
@@ -46,6 +46,7 @@ fn print_shifted<const H: usize>(alloc: Global, source: &Pattern<H>) -> Result<V
     ensures meaning { OnOk result
         (IsShiftedBy H source.now (shifted_form (standard_form source.now))) }
 {
+    has_one_shifted_form();
     let standard = standardise(alloc, source)?;
     let (shifted, change) = shift(alloc, &standard)?;
     let pattern = shifted.as_pattern(alloc)?;

@@ -160,6 +160,16 @@ fn answer_words<S: Source, K: Sink>(
     }
 }
 
+/// Notes on one line how a run of the command ended, where it did not end well. `serve` does so; a run that ends before its
+/// words are known calls it alone.
+pub fn write_note<E: Sink>(status: Status, note: &mut E)
+    ensures later { E.faults note.old ≤ E.faults note.new }
+    ensures noted { Notes (E.written note.old) (E.written note.new) (E.faults note.old) (E.faults note.new) (note_of status) }
+{
+    let line = status_line(&status);
+    let _ = write_all(note, line.as_slice());
+}
+
 /// Does all that the command does: reads the whole source, makes the whole answer to the words and writes it to `out`, and
 /// then notes on one line how it ended, where it did not end well. For a sample nothing is read.
 ///
@@ -211,7 +221,6 @@ pub fn serve<S: Source, K: Sink, E: Sink>(
     ensures noted { Notes (E.written note.old) (E.written note.new) (E.faults note.old) (E.faults note.new) (note_of result) }
 {
     let status = answer_words(alloc, words, source, out);
-    let line = status_line(&status);
-    let _ = write_all(note, line.as_slice());
+    write_note(status, note);
     status
 }

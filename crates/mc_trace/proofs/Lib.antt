@@ -7,6 +7,7 @@ pub mod FittingLines
 pub mod Leading
 pub mod RoundLemmas
 pub mod Rows
+pub mod SettledRounds
 pub mod UsesServe
 pub mod Verdicts
 pub mod ValidOrNot

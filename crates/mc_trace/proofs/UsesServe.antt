@@ -20,24 +20,23 @@ helps_useful u cs ds h l =
     subst (λ (xs : List Command). IsUseful xs l.new) (sym same)
     (h.helps.useful l.new (subst (λ (xs : List Command). Rewrites u.rule xs l.new) same l.rewrites))
 
+-- where it leads
+pub helps_leads : (u : Use) (cs : List Command) → (h : HelpsAt u cs) →
+    Leads u cs (h.before ++ (h.helps.new ++ h.behind))
+helps_leads u cs h = record {
+  before = h.before;
+  old = h.old;
+  new = h.helps.new;
+  behind = h.behind;
+  rewrites = h.helps.rewrites;
+  at_place = h.at_place;
+  from_list = h.from_list;
+  to_list = refl;
+}
+
 -- and fits the rule's line
 pub helps_lead : (u : Use) (cs : List Command) (rule : ℕ) → HelpsAt u cs → Misfits u cs rule → ⊥
 helps_lead u cs rule h m = elim m [
-  | inl lacks ↦ leads_exist u cs there leads lacks.1
-  | inr nowhere ↦ nowhere.2 there leads
+  | inl lacks ↦ leads_exist u cs _ (helps_leads u cs h) lacks.1
+  | inr nowhere ↦ nowhere.2 _ (helps_leads u cs h)
 ]
-  where
-    there : List Command
-    there = h.before ++ (h.helps.new ++ h.behind)
-
-    leads : Leads u cs there
-    leads = record {
-      before = h.before;
-      old = h.old;
-      new = h.helps.new;
-      behind = h.behind;
-      rewrites = h.helps.rewrites;
-      at_place = h.at_place;
-      from_list = h.from_list;
-      to_list = refl;
-    }

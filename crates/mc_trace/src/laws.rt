@@ -1,6 +1,13 @@
-//! What is proved of the checker's verdicts.
+//! What is proved of derivations that are made, and of the checker's verdicts.
 
 ghost use Rattle.mc_trace.specs.Judging.{EveryTraceIsJudged};
+ghost use Rattle.mc_trace.specs.Laws.{DerivationsExist};
+
+/// Every valid list of at most 64 commands has a derivation of its standard form, of at most 65,536 uses and through lists of
+/// at most 4,096 commands.
+pub fn derivations_exist()
+    ensures { DerivationsExist }
+{}
 
 /// Every list of uses is a derivation of the standard form, or a row of it breaks a rule first.
 pub fn every_trace_is_judged()

@@ -19,7 +19,7 @@ mod tests;
 
 pub use check::check_trace;
 pub use derivation::Derivation;
-pub use laws::every_trace_is_judged;
+pub use laws::{derivations_exist, every_trace_is_judged};
 pub use mc_cert::Verdict;
 pub use mc_derivations::{derivations_stay_short, traces_are_judged_once};
 pub use mc_standard::{Rule, Use};

@@ -7,7 +7,6 @@ use Rattle.mc_cert.proofs.bound.check_bound.Goals as goal
 
 pub returns-clause-first : goal.returns-clause-first
 returns-clause-first g c =
-    rw (← c.layer_rows.ensures.layers, ← c.set_rows.ensures.rows, ← c.depth.ensures)
     c.judged.ensures
 
 pub returns-clause-yes : goal.returns-clause-yes
@@ -16,11 +15,11 @@ returns-clause-yes g c =
     let b = c.args.b.now in
     names_none (IsBoundOf graph b.depth b.layers b.rows) (breach_of c.judged.result)
     (first_broken 1 (bound_lines graph b.depth b.layers b.rows)) (returns-clause-first g c)
-    (bound_rules_exact graph b.depth b.layers b.rows c.requires.layers c.layer_rows.ensures.own
-    c.requires.rows c.set_rows.ensures.apart)
+    (bound_rules_exact graph b.depth b.layers b.rows c.requires.layers c.layers.ensures.own
+    c.requires.rows c.len.ensures.apart)
 
 pub returns-clause-flows : goal.returns-clause-flows
 returns-clause-flows g c = λ yes.
     let b = c.args.b.now in
     bound_rows_hold c.args.g.now b.depth b.layers b.rows c.requires.layers
-    c.layer_rows.ensures.own (sym (returns-clause-first g c) ∙ yes)
+    c.layers.ensures.own (sym (returns-clause-first g c) ∙ yes)

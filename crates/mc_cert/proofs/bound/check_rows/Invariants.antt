@@ -5,6 +5,5 @@ use Rattle.mc_cert.proofs.bound.check_rows.Given as goal
 
 abbrev pub invariant-rows : goal.invariant-rows
 invariant-rows g l =
-    let graph = l.g in
-    RowsLeft (keeping_rules graph l.depth l.layers)
-    (bound_end_rules graph l.depth l.layers l.rows ∷ []) l.first l.rows l.i
+    RowsLeft (keeping_rules l.g l.b.depth l.b.layers)
+    (bound_end_rules l.g l.b.depth l.b.layers l.b.rows ∷ []) l.first l.b.rows l.i

@@ -6,13 +6,13 @@ use Rattle.mc_cert.proofs.bound.has_behind.Goals as goal
 pub returns-then-is_behind : goal.returns-then-is_behind
 returns-then-is_behind g c =
     let graph = c.args.g.now in
-    any_found (is_behind graph c.args.layers.now c.args.row.now.k) c.args.row.now.set c.members.i
+    any_found (is_behind graph c.args.b.now.layers c.args.k) c.args.set.now c.members.i
     c.get.result c.get.ensures.member
     (sym c.is_behind.ensures ∙ c.if-is_behind.true) c.members.invariant
 
 pub members-preserved : goal.members-preserved
 members-preserved g c =
     let graph = c.args.g.now in
-    any_step (is_behind graph c.args.layers.now c.args.row.now.k) c.args.row.now.set c.members.i
+    any_step (is_behind graph c.args.b.now.layers c.args.k) c.args.set.now c.members.i
     c.get.result c.get.ensures.member
     (sym c.is_behind.ensures ∙ c.if-is_behind.false) c.members.invariant

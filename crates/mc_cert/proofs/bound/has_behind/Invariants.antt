@@ -5,5 +5,5 @@ use Rattle.mc_cert.proofs.bound.has_behind.Given as goal
 
 abbrev pub invariant-members : goal.invariant-members
 invariant-members g l =
-    let p = is_behind l.g l.layers l.row.k in
-    list_any p (drop l.i l.row.set) ≡ list_any p l.row.set
+    let p = is_behind l.g l.b.layers l.k in
+    list_any p (drop l.i l.set) ≡ list_any p l.set

@@ -9,7 +9,7 @@ returns-then-is_odd_behind g c =
     let graph = c.args.g.now in
     let end = c.len-v-end.ensures.len in
     let below = c.vertices-test.true in
-    number_found (odd_behind graph c.args.layers.now c.args.row.now) (size graph) c.vertices.v
+    number_found (odd_behind graph c.args.b.now.layers c.args.k c.args.set.now) (size graph) c.vertices.v
     (omega arith)
     (sym c.is_odd_behind.ensures ∙ c.if-is_odd_behind.true)
 
@@ -18,5 +18,5 @@ returns g c =
     let graph = c.args.g.now in
     let end = c.len-v-end.ensures.len in
     let past = c.vertices-test.false in
-    no_number (odd_behind graph c.args.layers.now c.args.row.now) (size graph)
+    no_number (odd_behind graph c.args.b.now.layers c.args.k c.args.set.now) (size graph)
     (λ w l. c.vertices.invariant w (omega arith))

@@ -4,4 +4,4 @@ use Rattle.mc_cert.proofs.bound.has_odd_behind.Given as goal
 
 abbrev pub invariant-vertices : goal.invariant-vertices
 invariant-vertices g l =
-    (w : ℕ) → w < l.v → odd_behind l.g l.layers l.row w ≡ false
+    (w : ℕ) → w < l.v → odd_behind l.g l.b.layers l.k l.set w ≡ false

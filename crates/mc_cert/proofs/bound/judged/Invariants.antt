@@ -5,8 +5,6 @@ use Rattle.mc_cert.proofs.bound.judged.Given as goal
 
 abbrev pub invariant-layers : goal.invariant-layers
 invariant-layers g l =
-    let graph = l.g in
-    RowsLeft (layer_rules graph l.depth)
-    (before_first (all_layers_rules graph l.depth l.layers)
-    (keeping_lines graph l.depth l.layers l.rows))
-    1 l.layers l.i
+    RowsLeft (layer_rules l.g l.b.depth)
+    (before_first (all_layers_rules l.g l.b.depth l.b.layers)
+    (keeping_lines l.g l.b.depth l.b.layers l.b.rows)) 1 l.b.layers l.i

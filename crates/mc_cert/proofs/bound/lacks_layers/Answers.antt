@@ -9,7 +9,7 @@ returns-then-lacks_layer g c =
     let graph = c.args.g.now in
     let end = c.len-v-end.ensures.len in
     let below = c.vertices-test.true in
-    number_found (lacks_layer graph c.args.layers.now) (size graph) c.vertices.v
+    number_found (lacks_layer graph c.args.b.now.layers) (size graph) c.vertices.v
     (omega arith)
     (sym c.lacks_layer.ensures ∙ c.if-lacks_layer.true)
 
@@ -18,5 +18,5 @@ returns g c =
     let graph = c.args.g.now in
     let end = c.len-v-end.ensures.len in
     let past = c.vertices-test.false in
-    no_number (lacks_layer graph c.args.layers.now) (size graph)
+    no_number (lacks_layer graph c.args.b.now.layers) (size graph)
     (λ w l. c.vertices.invariant w (omega arith))

@@ -4,4 +4,4 @@ use Rattle.mc_cert.proofs.bound.lacks_layers.Given as goal
 
 abbrev pub invariant-vertices : goal.invariant-vertices
 invariant-vertices g l =
-    (w : ℕ) → w < l.v → lacks_layer l.g l.layers w ≡ false
+    (w : ℕ) → w < l.v → lacks_layer l.g l.b.layers w ≡ false

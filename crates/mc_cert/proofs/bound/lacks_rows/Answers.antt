@@ -8,12 +8,12 @@ returns-then-lacks_sets g c =
     let graph = c.args.g.now in
     let low = c.layers.invariant.0 in
     let below = c.layers-test.true in
-    sym (any_number (lacks_sets graph c.args.layers.now c.args.rows.now) 1 (c.args.depth - 1)
+    sym (any_number (lacks_sets graph c.args.b.now.layers c.args.b.now.rows) 1 (c.args.b.now.depth - 1)
     c.layers.k low (omega arith) (sym c.lacks_sets.ensures ∙ c.if-lacks_sets.true))
 
 pub returns : goal.returns
 returns g c =
     let graph = c.args.g.now in
     let past = c.layers-test.false in
-    sym (none_from (lacks_sets graph c.args.layers.now c.args.rows.now) 1 (c.args.depth - 1)
+    sym (none_from (lacks_sets graph c.args.b.now.layers c.args.b.now.rows) 1 (c.args.b.now.depth - 1)
     (λ w low high. c.layers.invariant.1 w low (omega arith)))

@@ -5,4 +5,4 @@ use Rattle.mc_cert.proofs.bound.lacks_rows.Given as goal
 abbrev pub invariant-layers : goal.invariant-layers
 invariant-layers g l =
     (1 ≤ l.k) × ((w : ℕ) → 1 ≤ w → w < l.k →
-    lacks_sets l.g l.layers l.rows w ≡ false)
+    lacks_sets l.g l.b.layers l.b.rows w ≡ false)

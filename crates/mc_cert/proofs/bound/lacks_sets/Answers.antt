@@ -9,7 +9,7 @@ returns-then-lacks_set g c =
     let graph = c.args.g.now in
     let end = c.len-u-end.ensures.len in
     let below = c.vertices-test.true in
-    number_found (lacks_set c.args.layers.now c.args.rows.now c.args.k) (size graph) c.vertices.u
+    number_found (lacks_set c.args.b.now.layers c.args.b.now.rows c.args.k) (size graph) c.vertices.u
     (omega arith)
     (sym c.lacks_set.ensures ∙ c.if-lacks_set.true)
 
@@ -18,5 +18,5 @@ returns g c =
     let graph = c.args.g.now in
     let end = c.len-u-end.ensures.len in
     let past = c.vertices-test.false in
-    no_number (lacks_set c.args.layers.now c.args.rows.now c.args.k) (size graph)
+    no_number (lacks_set c.args.b.now.layers c.args.b.now.rows c.args.k) (size graph)
     (λ w l. c.vertices.invariant w (omega arith))

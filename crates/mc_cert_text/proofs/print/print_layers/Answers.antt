@@ -2,7 +2,7 @@ use Rattle.std.proofs.Common.{◌≡◌, ◌<◌, ◌++◌, sym, ap, ◌∙◌, 
 use Rattle.std.proofs.Common.{List, ℕ}
 use Rattle.std.proofs.lemmas.List.{take_all, append-nil}
 use Rattle.std.proofs.lemmas.List.Elements.{All-nil}
-use Rattle.mc_cert.specs.declared.rows.LayerRow.{LayerRow}
+use Rattle.mc_cert.specs.BoundRecords.{LayerRow}
 use Rattle.mc_write.specs.Text.{Line, line_text, text_of}
 use Rattle.mc_rows.specs.Written.{row_line}
 use Rattle.mc_cert_text.specs.Tables.{least_shape}

@@ -3,7 +3,7 @@ use Rattle.std.proofs.Common.{List, ℕ}
 use Rattle.std.proofs.lemmas.List.{take_all, append-nil}
 use Rattle.std.proofs.lemmas.List.Elements.{All-nil}
 use Rattle.mc_model.specs.Signals.{IsRising}
-use Rattle.mc_cert.specs.declared.rows.BoundRow.{BoundRow}
+use Rattle.mc_cert.specs.BoundRecords.{BoundRow}
 use Rattle.mc_write.specs.Text.{Line, line_text, text_of}
 use Rattle.mc_rows.specs.Written.{row_line}
 use Rattle.mc_cert_text.specs.Tables.{least_shape}

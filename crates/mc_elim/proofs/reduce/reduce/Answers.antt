@@ -1,59 +1,75 @@
-use Rattle.std.proofs.Common.{◌≢◌, ◌+◌, ◌<◌, ◌||◌, ◌∙◌, ℕ, arith, sym, ap, subst, List, Bool}
-use Rattle.std.proofs.Common.{length, refl}
+use Rattle.std.proofs.Common.{◌≢◌, ◌+◌, ◌||◌, ◌∙◌, ℕ, arith, sym, ap, subst, List}
+use Rattle.std.proofs.Common.{Bool, length, refl}
+use Rattle.mc_bits.specs.Words.{IsNextBit, HasNoBit}
+use Rattle.mc_bits.specs.Rows.{bit_of}
 use Rattle.mc_elim.specs.Tables.{CountsUpTo}
-use Rattle.mc_elim.proofs.RowsReduced.{reduce_none, reduce_more, nothing_counted, count_more}
-use Rattle.mc_elim.proofs.RowsReduced.{nothing_more}
+use Rattle.mc_elim.proofs.RowsReduced.{reduce_none, reduce_more, reduce_whole, nothing_counted}
+use Rattle.mc_elim.proofs.RowsReduced.{count_to, nothing_more}
 use Rattle.mc_elim.proofs.reduce.reduce.Goals as goal
 
-pub vectors-init : goal.vectors-init
-vectors-init g c = record {
+pub bits-init : goal.bits-init
+bits-init g c = record {
   reduced = reduce_none c.args.rows.now c.args.firsts.now c.args.k;
   counted = nothing_counted c.args.steps.now;
   same = λ _. refl;
+  within = omega arith;
 }
 
-pub clear-added-requires-clause-within : goal.clear-added-requires-clause-within
-clear-added-requires-clause-within g c =
-    let count = c.vectors.invariant.reduced.count in
+pub reduce_at-added-requires : goal.reduce_at-added-requires
+reduce_at-added-requires g c =
+    let done = c.bits.invariant.reduced in
+    let count = done.count in
     let within = c.requires.within in
-    (omega arith, omega arith)
+    let next = subst (λ (row : List Bool). IsNextBit (bit_of row) c.bits.low c.args.n c.in-Some.u)
+    c.row.ensures c.in-Some.ensures in
+    let below = next.below in
+    record {
+      within = (omega arith, omega arith, omega arith);
+      alike = λ i l.
+          let apart : i ≢ c.args.k = omega arith in
+          ap (λ (row : List Bool). length row) (done.others i apart)
+          ∙ c.requires.alike i l
+          ∙ sym done.width;
+      numbered = c.requires.numbered;
+      bit = next.has;
+    }
 
-pub clear-added-requires-clause-alike : goal.clear-added-requires-clause-alike
-clear-added-requires-clause-alike g c =
-    let done = c.vectors.invariant.reduced in
-    let apart : c.vectors.i ≢ c.args.k = omega arith in
-    ap (λ (row : List Bool). length row) (done.others c.vectors.i apart)
-    ∙ c.requires.alike c.vectors.i c.vectors-test.true
-    ∙ sym done.width
-
-pub clear-added-requires-clause-bit : goal.clear-added-requires-clause-bit
-clear-added-requires-clause-bit g c =
-    let width = c.vectors.invariant.reduced.width in
-    let inside = c.requires.inside c.vectors.i c.vectors-test.true in
-    omega arith
-
-pub vectors-preserved : goal.vectors-preserved
-vectors-preserved g c =
-    let old = c.args.rows.now in
-    let firsts = c.args.firsts.now in
-    let k = c.args.k in
-    let i = c.vectors.i in
-    let below = c.vectors-test.true in
-    let done = c.vectors.invariant in
-    let more = c.clear-added.ensures in
-    let own = λ (a : ℕ) (l : a < i). c.requires.own a i l below in
+pub bits-preserved : goal.bits-preserved
+bits-preserved g c =
+    let u = c.in-Some.u in
+    let low = c.bits.low in
+    let done = c.bits.invariant in
+    let more = c.reduce_at-added.ensures in
+    let told = c.reduce_at-added.result in
+    let next = subst (λ (row : List Bool). IsNextBit (bit_of row) low c.args.n u) c.row.ensures
+    c.in-Some.ensures in
+    let below = next.below in
     record {
       reduced =
-          reduce_more old firsts k i below own c.vectors.rows c.clear-added.new.rows done.reduced
-          more.cleared;
+          reduce_more c.args.rows.now c.args.firsts.now c.args.k c.args.n c.requires.apart
+          c.requires.own c.bits.rows low done.reduced u next c.reduce_at-added.new.rows told
+          more.reduced;
       counted =
-          subst (λ (s : ℕ). CountsUpTo c.args.steps.now s (i + 1)
-          (c.vectors.added || c.clear-added.result))
+          subst (λ (s : ℕ). CountsUpTo c.args.steps.now s (u + 1) (c.bits.added || told))
           (sym more.counted)
-          (count_more c.args.steps.now c.vectors.steps i c.vectors.added c.clear-added.result
-          done.counted);
+          (count_to c.args.steps.now c.bits.steps low u c.bits.added told next.above done.counted);
       same = λ e.
-          let still = nothing_more c.args.steps.now c.vectors.steps i c.vectors.added
-          c.clear-added.result done.counted (sym more.counted ∙ e) in
+          let still = nothing_more c.args.steps.now c.bits.steps low c.bits.added told done.counted
+          (sym more.counted ∙ e) in
           more.same still.1 ∙ done.same still.0;
+      within = omega arith;
     }
+
+pub returns-clause-reduced : goal.returns-clause-reduced
+returns-clause-reduced g c =
+    let none = subst (λ (row : List Bool). HasNoBit (bit_of row) c.bits.low c.args.n) c.row.ensures
+    c.in_default.ensures in
+    reduce_whole c.args.rows.now c.args.firsts.now c.args.k c.args.n c.requires.apart
+    c.requires.own c.bits.rows c.bits.low c.bits.invariant.reduced c.bits.invariant.within none
+
+pub returns-clause-counted : goal.returns-clause-counted
+returns-clause-counted g c =
+    let counted = c.bits.invariant.counted in
+    let most = counted.most in
+    let within = c.bits.invariant.within in
+    record { rise = counted.rise; most = omega arith; added_is = counted.added_is }

@@ -1,7 +1,7 @@
 use Rattle.std.specs.Prelude.{◌≡◌, ◌+◌, List}
 use Rattle.std.proofs.Common.{sym, subst, ap, ◌∙◌}
 use Rattle.mc_graph.specs.Flows.{layer_in}
-use Rattle.mc_cert.specs.declared.rows.LayerRow.{LayerRow}
+use Rattle.mc_cert.specs.BoundRecords.{LayerRow}
 use Rattle.mc_cert.specs.Bounds.{BoundRows}
 use Rattle.mc_least.specs.Rows.{HoldsLayers}
 use Rattle.mc_least.proofs.ChosenRows.{chosen_rows}

@@ -1,7 +1,7 @@
 use Rattle.std.specs.Prelude.{◌+◌, List, refl}
 use Rattle.std.proofs.Common.{sym, subst, ap, ◌∙◌}
 use Rattle.mc_graph.specs.Flows.{layer_in}
-use Rattle.mc_cert.specs.declared.rows.BoundRow.{BoundRow}
+use Rattle.mc_cert.specs.BoundRecords.{BoundRow}
 use Rattle.mc_cert.specs.Bounds.{BoundRows}
 use Rattle.mc_least.specs.Rows.{HoldsSets, IsSetDue, IsSetRow}
 use Rattle.mc_least.proofs.ListedRows.{row_pushed}

@@ -1,4 +1,4 @@
-use Rattle.std.proofs.Common.{◌≡◌, ℕ, ◌++◌, arith, map}
+use Rattle.std.proofs.Common.{◌≡◌, ℕ, ◌++◌, ◌∙◌, arith, map}
 use mathlib.Core.Path.{subst}
 use Rattle.mc_model.specs.Bits.{Bits}
 use Rattle.mc_model.specs.Numbers.{is_member, numbers_where}
@@ -12,9 +12,11 @@ use Rattle.mc_make.proofs.make.push_xs.Goals as goal
 pub vertices-preserved : goal.vertices-preserved
 vertices-preserved g c =
     let test : Bits = is_member c.args.set.now in
+    let past = c.vertices-test.true in
     told_more (λ k. FixX k (signal_of c.args.q)) test c.vertices.v _
     (map (plain_command {h = g.row.H}) c.args.commands.now.items)
-    (map (plain_command {h = g.row.H}) c.vertices.commands.items) c.has.ensures.member c.vertices.invariant
+    (map (plain_command {h = g.row.H}) c.vertices.commands.items)
+    (c.bit.ensures ∙ c.row_of-members.ensures.bits c.vertices.v (omega arith)) c.vertices.invariant
     c.in_ok-push_x_if.ensures
 
 pub returns : goal.returns

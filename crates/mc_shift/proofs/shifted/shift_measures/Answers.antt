@@ -49,10 +49,11 @@ measures-preserved g c =
         c.in_ok-append.ensures,
         map-append,
         c.empty.ensures,
-        signals_set c.measures.shifts m.q c.in_ok-shifts.field-0 within,
+        c.in_ok-signal.ensures,
+        signals_set c.measures.shifts m.q c.put_in-in-measures.result within,
         c.in_ok-push.ensures.ok,
         c.in_ok-copy.ensures,
       )
           (halfway_step 256 _ _ _ _ _ m.q m.angle m.s m.t _ _ c.measures.invariant.1 here
-          c.in_ok-put_in.ensures c.in_ok-shifts.ensures),
+          c.put_in.ensures c.put_in-in-measures.ensures),
     )

@@ -24,6 +24,10 @@ returns-clause-for_text c =
     record {
       flows = c.flows_or_refuters_exist.ensures;
       causal = c.causal_flows_or_stuck_sets_exist.ensures;
+      bounds = c.chosen_flows_have_bounds.ensures;
+      few_bounds = c.short_bounds_are_few.ensures;
+      derivations = c.derivations_exist.ensures;
+      small_places = c.derivations_stay_short.ensures.places;
       translation_flow = c.translations_have_flows.ensures;
       forms = forms;
     } in
@@ -52,6 +56,10 @@ returns-clause-in_step c =
     record {
       flows = c.flows_or_refuters_exist.ensures;
       causal = c.causal_flows_or_stuck_sets_exist.ensures;
+      bounds = c.chosen_flows_have_bounds.ensures;
+      few_bounds = c.short_bounds_are_few.ensures;
+      derivations = c.derivations_exist.ensures;
+      small_places = c.derivations_stay_short.ensures.places;
       translation_flow = c.translations_have_flows.ensures;
       forms = forms;
     } in

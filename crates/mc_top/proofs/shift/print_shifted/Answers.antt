@@ -27,7 +27,8 @@ returns-clause-text g c =
     let written = c.print_with_change.result in
     let form : c.in_ok-pattern.pattern ≡ shifted_form standard =
     c.in_ok-pattern.ensures
-    ∙ sym (is_shifted_form standard c.in_ok-shifted.shifted valid c.in_ok-shifted.ensures.only) in
+    ∙ sym (is_shifted_form c.has_one_shifted_form.ensures.made standard c.in_ok-shifted.shifted valid
+    c.in_ok-shifted.ensures.only) in
     subst (λ (p : Pattern). IfOk written (λ text. text.items ≡ shifted_text g.row.H p))
     c.in_ok-standard.ensures.form
     (subst
@@ -45,7 +46,8 @@ returns-clause-meaning g c =
     let valid = subst IsValidPattern c.standard.view_is c.standard.invariant.pattern.valid in
     let positive = permitted_positive g.row.H c.requires in
     on_ok c.print_with_change.result _
-    (shifted_by g.row.H c.args.source.now c.in_ok-standard.standard c.in_ok-shifted.shifted valid
-    c.in_ok-standard.ensures.form c.in_ok-shifted.ensures.only
+    (shifted_by c.has_one_shifted_form.ensures.made g.row.H c.args.source.now
+    c.in_ok-standard.standard c.in_ok-shifted.shifted valid c.in_ok-standard.ensures.form
+    c.in_ok-shifted.ensures.only
     (c.in_ok-standard.ensures.alike g.row.H positive)
     (c.in_ok-shifted.ensures.maps g.row.H positive))

@@ -23,4 +23,19 @@ returns c =
     (ap (λ (row : List Bool). bit_of row k) (sym c.self.view_is) ∙ row_of-bit bits words k h)
     (ap (λ (row : List Bool). bit_of row k) (sym c.other.view_is)
     ∙ row_of-bit c.other.inside.bits c.other.inside.words k (omega arith))
-    ∙ sym (c.add_words.ensures k h))
+    ∙ sym (c.add_words.ensures.sum k h))
+
+pub invariant_of-self : goal.invariant_of-self
+invariant_of-self c =
+    let bits = c.self.inside.bits in
+    let words = c.self.inside.words in
+    let m : length c.args.self.now ≡ bits =
+    ap (λ (row : List Bool). length row) (sym c.self.view_is) ∙ row_of-length bits words in
+    let n : length c.args.other.now ≡ c.other.inside.bits =
+    ap (λ (row : List Bool). length row) (sym c.other.view_is)
+    ∙ row_of-length c.other.inside.bits c.other.inside.words in (
+      c.self.invariant.0,
+      λ k l.
+          c.add_words.ensures.others k l (c.other.invariant.1 k (omega arith))
+          ∙ c.self.invariant.1 k l,
+    )

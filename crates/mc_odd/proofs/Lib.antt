@@ -1,0 +1,2 @@
+pub mod NumberSums
+pub mod FlippedBits

@@ -1,0 +1,251 @@
+-- Sums of signals by their bits: rising lists by their members, and the members of words.
+use Rattle.std.proofs.Common.{◌≡◌, ℕ, zero, suc, ◌+◌, ◌<◌, ◌≤◌, Bool, true}
+use Rattle.std.proofs.Common.{false, ◌&&◌, List, [], ◌∷◌, refl, sym, ap, ap₂, ◌∙◌, arith, length}
+use Rattle.std.proofs.Common.{drop, nat_eq, nat_lt, All, subst}
+use Rattle.std.specs.Prelude.{Some, slice_get, not}
+use Rattle.std.specs.List.{filter}
+use Rattle.std.proofs.lemmas.Bool.{eq-eqb, ne_eqb, lt-ltb, le-ltb, cases_Bool, cases_order}
+use Rattle.std.proofs.lemmas.Bool.{false≢true, ltb-true, ltb-false}
+use Rattle.std.proofs.lemmas.Option.{slice_get_within, get_or_from_slice_get}
+use Rattle.std.proofs.lemmas.List.{drop_all}
+use Rattle.std.proofs.Math.Seq.{drop-cons}
+use mathlib.Core.Bool.{beq}
+use mathlib.Core.Logic.{inl, inr}
+use Rattle.mc_model.specs.Bits.{◌⊻◌, Bits}
+use Rattle.mc_model.specs.Numbers.{numbers_from, numbers_where, is_member}
+use Rattle.mc_model.specs.Signals.{Signal, signal_sum, AllAbove, IsRising}
+use Rattle.mc_model.proofs.NumberLists.{count-where, member_once}
+use Rattle.mc_model.proofs.SignalLemmas.{toggled_all_rising}
+use Rattle.mc_signal.proofs.Members.{is_member-above, is_member-first, is_member-small}
+use Rattle.mc_signal.proofs.Members.{is_member-toggled_all}
+use Rattle.mc_signal.proofs.Rising.{AllAbove-lower, rising_drop}
+use Rattle.mc_bits.specs.Words.{word_bit}
+use Rattle.mc_bits.proofs.BitsOfWords.{zero_words}
+use Rattle.mc_standard.specs.NextBits.{IsNext}
+use Rattle.mc_standard.specs.Sums.{summed, HasBelow}
+
+-- ---- rising lists
+
+above_from : (p : Bits) (r q n : ℕ) → r < q → AllAbove r (filter p (numbers_from q n))
+above_from p r q zero lt = tt
+above_from p r q (suc n) lt = elim (cases_Bool (p q)) [
+  | inl e ↦ rw e (lt, above_from p r (suc q) n (omega arith))
+  | inr e ↦ rw e (above_from p r (suc q) n (omega arith))
+]
+
+rising_from : (p : Bits) (q n : ℕ) → IsRising (filter p (numbers_from q n))
+rising_from p q zero = tt
+rising_from p q (suc n) = elim (cases_Bool (p q)) [
+  | inl e ↦ rw e (above_from p q (suc q) n (omega arith), rising_from p (suc q) n)
+  | inr e ↦ rw e (rising_from p (suc q) n)
+]
+
+rising_where : (p : Bits) (n : ℕ) → IsRising (numbers_where p n)
+rising_where p n = rising_from p 0 n
+
+member_where : (p : Bits) (n k : ℕ) → is_member (numbers_where p n) k ≡ (nat_lt k n && p k)
+member_where p n k = member_once (numbers_where p n) k (nat_lt k n && p k) (count-where p n k)
+
+first_member : (q : ℕ) (qs : List ℕ) → is_member (q ∷ qs) q ≡ true
+first_member q qs = rw (eq-eqb q q refl) refl
+
+cancelled : (e a b : Bool) → (e ⊻ a) ≡ (e ⊻ b) → a ≡ b
+cancelled e a b same = grind arith
+
+tail_same : (q : ℕ) (ps qs : List ℕ) (k : ℕ) → AllAbove q ps → AllAbove q qs →
+    is_member (q ∷ ps) k ≡ is_member (q ∷ qs) k → is_member ps k ≡ is_member qs k
+tail_same q ps qs k left right same =
+    cancelled (nat_eq k q) (is_member ps k) (is_member qs k)
+    (sym (is_member-first q k ps left) ∙ same ∙ is_member-first q k qs right)
+
+-- a rising list is told by its members
+same_members : (ps qs : List ℕ) → IsRising ps → IsRising qs →
+    ((k : ℕ) → is_member ps k ≡ is_member qs k) → ps ≡ qs
+same_members [] [] left right same = refl
+same_members [] (q ∷ qs) left right same = absurd (false≢true (same q ∙ first_member q qs))
+same_members (p ∷ ps) [] left right same =
+    absurd (false≢true (sym (same p) ∙ first_member p ps))
+same_members (p ∷ ps) (q ∷ qs) left right same = elim (cases_order p q) [
+  | inl e ↦
+      let same' = λ (k : ℕ). ap (λ (r : ℕ). is_member (r ∷ ps) k) (sym e) ∙ same k in
+      let above : AllAbove q ps = rw e at left.0 in
+      ap₂ (λ (r : ℕ) (rs : List ℕ). r ∷ rs) e
+      (same_members ps qs left.1 right.1 (λ k. tail_same q ps qs k above right.0 (same' k)))
+  | inr other ↦ elim other [
+    | inl lt ↦ absurd
+        (false≢true (sym (is_member-above p (q ∷ qs) (lt, AllAbove-lower p q qs lt right.0))
+        ∙ sym (same p) ∙ first_member p ps))
+    | inr gt ↦ absurd
+        (false≢true (sym (is_member-above q (p ∷ ps) (gt, AllAbove-lower q p ps gt left.0))
+        ∙ same q ∙ first_member q qs))
+  ]
+]
+
+-- ---- sums
+
+pub summed-rising : (words : List ℕ) (constant : Bool) → IsRising (summed words constant).members
+unfolding summed
+summed-rising words constant = rising_where (word_bit words) 256
+
+summed-member : (words : List ℕ) (constant : Bool) (k : ℕ) →
+    is_member (summed words constant).members k ≡ (nat_lt k 256 && word_bit words k)
+unfolding summed
+summed-member words constant k = member_where (word_bit words) 256 k
+
+summed-constant : (words : List ℕ) (constant : Bool) → (summed words constant).constant ≡ constant
+unfolding summed
+summed-constant words constant = refl
+
+-- a signal is the sum with its members' bits
+pub summed_by : (words : List ℕ) (constant : Bool) (s : Signal) → IsRising s.members →
+    HasBelow words 256 s.members → constant ≡ s.constant → summed words constant ≡ s
+unfolding summed
+summed_by words constant s rising has same =
+    ap₂ (λ (members : List ℕ) (b : Bool). record { members = members; constant = b })
+    (same_members (numbers_where (word_bit words) 256) s.members
+    (rising_where (word_bit words) 256) rising
+    (λ k. member_where (word_bit words) 256 k ∙ sym (has.at k)))
+    same
+
+pub different : (a b : Bool) → not (beq a b) ≡ (a ⊻ b)
+different a b = grind arith
+
+within : (below a m : Bool) → (m ≡ true → below ≡ true) → ((below && a) ⊻ m) ≡ (below && (a ⊻ m))
+within below a m small = grind arith
+
+both_within : (below a b : Bool) → ((below && a) ⊻ (below && b)) ≡ (below && (a ⊻ b))
+both_within below a b = grind arith
+
+-- the sum with a signal added
+pub sum_with_signal : (words more : List ℕ) (b c : Bool) (s : Signal) → IsRising s.members →
+    All (λ q. q < 256) s.members →
+    ((k : ℕ) → word_bit more k ≡ (word_bit words k ⊻ is_member s.members k)) →
+    c ≡ (b ⊻ s.constant) → summed more c ≡ signal_sum (summed words b) s
+sum_with_signal words more b c s rising small bits same =
+    let members = (summed words b).members in
+    summed_by more c (signal_sum (summed words b) s)
+    (toggled_all_rising members s.members rising)
+    (record {
+      at = λ k.
+          is_member-toggled_all members s.members k (summed-rising words b) rising
+          ∙ ap (λ (x : Bool). x ⊻ is_member s.members k) (summed-member words b k)
+          ∙ within (nat_lt k 256) (word_bit words k) (is_member s.members k)
+          (λ m. lt-ltb k 256 (is_member-small k s.members small m))
+          ∙ ap (λ (x : Bool). nat_lt k 256 && x) (sym (bits k));
+    })
+    (same ∙ ap (λ (x : Bool). x ⊻ s.constant) (sym (summed-constant words b)))
+
+below_or_not : (below a b x : Bool) → (below ≡ true → x ≡ (a ⊻ b)) →
+    (below && (a ⊻ b)) ≡ (below && x)
+below_or_not below a b x same = grind arith
+
+-- the sum of two sums
+pub sum_of_sums : (words other more : List ℕ) (b c d : Bool) →
+    ((k : ℕ) → k < 256 → word_bit more k ≡ (word_bit words k ⊻ word_bit other k)) →
+    d ≡ (b ⊻ c) → summed more d ≡ signal_sum (summed words b) (summed other c)
+sum_of_sums words other more b c d bits same =
+    let left = (summed words b).members in
+    let right = (summed other c).members in
+    summed_by more d (signal_sum (summed words b) (summed other c))
+    (toggled_all_rising left right (summed-rising other c))
+    (record {
+      at = λ k.
+          is_member-toggled_all left right k (summed-rising words b) (summed-rising other c)
+          ∙ ap₂ (λ (x y : Bool). x ⊻ y) (summed-member words b k) (summed-member other c k)
+          ∙ both_within (nat_lt k 256) (word_bit words k) (word_bit other k)
+          ∙ below_or_not (nat_lt k 256) (word_bit words k) (word_bit other k) (word_bit more k)
+          (λ e. bits k (ltb-true k 256 e));
+    })
+    (same ∙ ap₂ (λ (x y : Bool). x ⊻ y) (sym (summed-constant words b))
+    (sym (summed-constant other c)))
+
+-- ---- the bits that are changed, member by member
+
+moved : (a e m : Bool) → ((a ⊻ e) ⊻ m) ≡ (a ⊻ (e ⊻ m))
+moved a e m = grind arith
+
+pub flipped_more : (qs : List ℕ) (i q k : ℕ) (a b x : Bool) → IsRising qs →
+    slice_get qs i ≡ Some q → b ≡ (a ⊻ nat_eq k q) → (a ⊻ is_member (drop i qs) k) ≡ x →
+    (b ⊻ is_member (drop (i + 1) qs) k) ≡ x
+flipped_more qs i q k a b x rising at changed h =
+    let next : suc i ≡ i + 1 = omega arith in
+    let rest : drop i qs ≡ q ∷ drop (i + 1) qs =
+    drop-cons qs i 0 (slice_get_within qs i q at)
+    ∙ ap₂ (λ (r n : ℕ). r ∷ drop n qs) (get_or_from_slice_get qs i q 0 at) next in
+    let rise : IsRising (q ∷ drop (i + 1) qs) = subst IsRising rest (rising_drop i qs rising) in
+    ap (λ (y : Bool). y ⊻ is_member (drop (i + 1) qs) k) changed
+    ∙ moved a (nat_eq k q) (is_member (drop (i + 1) qs) k)
+    ∙ ap (λ (y : Bool). a ⊻ y) (sym (is_member-first q k (drop (i + 1) qs) rise.0))
+    ∙ ap (λ (rs : List ℕ). a ⊻ is_member rs k) (sym rest)
+    ∙ h
+
+xor_none : (a : Bool) → a ≡ a ⊻ false
+xor_none a = grind arith
+
+pub flipped_all : (qs : List ℕ) (i k : ℕ) (a x : Bool) → length qs ≤ i →
+    (a ⊻ is_member (drop i qs) k) ≡ x → a ≡ x
+flipped_all qs i k a x over h =
+    xor_none a ∙ ap (λ (rs : List ℕ). a ⊻ is_member rs k) (sym (drop_all i qs over)) ∙ h
+
+-- ---- the members of words, by rising bits
+
+-- the set with the next number, whose bit is 1
+pub has_more : (words set more : List ℕ) (n : ℕ) → HasBelow words n set →
+    word_bit words n ≡ true →
+    ((k : ℕ) → is_member more k ≡ (is_member set k ⊻ nat_eq k n)) → HasBelow words (n + 1) more
+has_more words set more n has one changed = record {
+  at = λ k.
+      changed k
+      ∙ ap (λ (b : Bool). b ⊻ nat_eq k n) (has.at k)
+      ∙ elim (cases_order k n) [
+        | inl e ↦
+            rw (e, eq-eqb n n refl, le-ltb n n (omega arith), lt-ltb n (n + 1) (omega arith), one) refl
+        | inr other ↦ elim other [
+          | inl lt ↦
+              rw (
+                lt-ltb k n lt,
+                lt-ltb k (n + 1) (omega arith),
+                ne_eqb k n (λ e. absurd (omega arith)),
+              )
+              (sym (xor_none (word_bit words k)))
+          | inr gt ↦
+              rw (
+                le-ltb k n (omega arith),
+                le-ltb k (n + 1) (omega arith),
+                ne_eqb k n (λ e. absurd (omega arith)),
+              ) refl
+        ]
+      ];
+}
+
+-- up to the next number whose bit is 1
+pub has_next : (words set : List ℕ) (m end n : ℕ) → HasBelow words m set →
+    IsNext (word_bit words) m end n → HasBelow words n set
+has_next words set m end n has next = record {
+  at = λ k.
+      has.at k ∙ elim (cases_Bool (nat_lt k m)) [
+        | inl e ↦
+            let lt = ltb-true k m e in
+            let order = next.order in
+            ap (λ (b : Bool). b && word_bit words k) (e ∙ sym (lt-ltb k n (omega arith)))
+        | inr e ↦ elim (cases_Bool (nat_lt k n)) [
+          | inl g ↦
+              rw (e, g) (sym (next.none k (ltb-false k m e) (ltb-true k n g)))
+          | inr g ↦ ap (λ (b : Bool). b && word_bit words k) (e ∙ sym g)
+        ]
+      ];
+}
+
+pub has_none : (words : List ℕ) → HasBelow words 0 []
+has_none words = record {
+  at = λ k. sym (ap (λ (x : Bool). x && word_bit words k) (le-ltb k 0 (omega arith)));
+}
+
+pub has_zeros : HasBelow (0 ∷ 0 ∷ 0 ∷ 0 ∷ []) 256 []
+has_zeros = record {
+  at = λ k.
+      sym (ap (λ (x : Bool). nat_lt k 256 && x) (zero_words 4 k) ∙ and_false (nat_lt k 256));
+}
+  where
+    and_false : (b : Bool) → (b && false) ≡ false
+    and_false b = grind arith

@@ -1,0 +1,5 @@
+use Rattle.mc_trace.proofs.SettledRounds.{derivations_exist}
+use Rattle.mc_trace.proofs.laws.derivations_exist.Goals as goal
+
+pub returns : goal.returns
+returns c = derivations_exist
