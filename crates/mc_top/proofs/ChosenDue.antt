@@ -37,7 +37,7 @@ use Rattle.mc_cert_text.specs.Certs as cert
 use Rattle.mc_document.specs.Documents as document
 use Rattle.mc_document.specs.Documents.{document_text, IsDocument, PlainDocument}
 use Rattle.mc_document.specs.declared.takes.Takes as takes
-use Rattle.mc_document.specs.Kinds.{circuits_and_patterns, every_source, IsTaken}
+use Rattle.mc_document.specs.Documents.{circuits_and_patterns, every_source, IsTaken}
 use Rattle.mc_document.specs.Places.{first_place}
 use Rattle.mc_document.specs.Sections.{first_in_text, spelled}
 use Rattle.mc_document.specs.Turns.{first_words, half_of}

@@ -18,7 +18,7 @@ use Rattle.mc_extract.specs.Laws.{ExtractedCircuitScale, ExtractedCircuitsAreVal
 use Rattle.mc_extract.specs.Laws.{ExtractedGatesAreEdges}
 use Rattle.mc_document.specs.Documents.{PlainDocument, circuit, graph, pattern, IsDocument}
 use Rattle.mc_document.specs.Documents.{gates, traced, two}
-use Rattle.mc_document.specs.Kinds.{IsTaken, every_source}
+use Rattle.mc_document.specs.Documents.{IsTaken, every_source}
 use Rattle.mc_extract.specs.Extracted.{gate_count}
 use Rattle.mc_top.specs.Due.{Due, GivesDue, IsDueUnless}
 use Rattle.mc_top.specs.Extract.{gate_limit, MeansExtract}

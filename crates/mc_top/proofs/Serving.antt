@@ -17,9 +17,9 @@ use Rattle.mc_document.specs.declared.takes.Takes as takes
 use Rattle.mc_document.specs.Documents as document
 use Rattle.mc_document.specs.Documents.{IsDocument, PlainDocument, circuit_in, document_text}
 use Rattle.mc_document.specs.Documents.{gates_in, pattern_in, two_in}
-use Rattle.mc_document.specs.Kinds.{two_patterns}
-use Rattle.mc_document.specs.Kinds.{IsTaken, circuits_and_patterns, every_source, only_circuits}
-use Rattle.mc_document.specs.Kinds.{only_gates, patterns_and_graphs}
+use Rattle.mc_document.specs.Documents.{two_patterns}
+use Rattle.mc_document.specs.Documents.{IsTaken, circuits_and_patterns, every_source, only_circuits}
+use Rattle.mc_document.specs.Documents.{only_gates, patterns_and_graphs}
 use Rattle.mc_document.specs.Places.{first_place}
 use Rattle.mc_document.specs.Sections.{first_in_text, spelled}
 use Rattle.mc_document.specs.Turns.{half_of}

@@ -7,7 +7,7 @@ use Rattle.mc_model.specs.Pattern.{Pattern}
 use Rattle.mc_cert.specs.Rules.{Breach}
 use Rattle.mc_trace.specs.Judging.{EveryTraceIsJudged, Judges}
 use Rattle.mc_document.specs.Documents.{PlainDocument, circuit, gates, graph, pattern, traced, two}
-use Rattle.mc_document.specs.Kinds.{IsTaken, certified_kinds}
+use Rattle.mc_document.specs.Documents.{IsTaken, certified_kinds}
 use Rattle.mc_top.specs.Check.{IsDueCheck, IsTraceVerdict, breach_in, due_verdict}
 use Rattle.mc_top.specs.Due.{Due, refusal, IsDueUnless}
 use Rattle.mc_top.specs.Trace.{trace_limit}

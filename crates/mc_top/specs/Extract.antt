@@ -22,7 +22,7 @@ use Rattle.mc_document.specs.Documents.{PlainDocument, circuit, document_text, g
 use Rattle.mc_document.specs.Documents.{pattern}
 use Rattle.mc_document.specs.Documents.{traced, two}
 use Rattle.mc_gates.specs.Lowering.{lowered}
-use Rattle.mc_document.specs.Kinds.{every_source}
+use Rattle.mc_document.specs.Documents.{every_source}
 use Rattle.mc_top.specs.Due.{Due, IsDueUnless, answer, holding}
 use Rattle.mc_top.specs.GraphSource.{source_graph, IsDueFromGraph}
 use Rattle.mc_top.specs.Command.{Command}
