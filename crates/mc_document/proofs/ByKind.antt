@@ -30,20 +30,22 @@ use Rattle.mc_gates.specs.Gates.{GateList}
 use Rattle.mc_gates.specs.Lists.{IsGateList}
 use Rattle.mc_document.specs.declared.takes.Takes.{Takes}
 use Rattle.mc_document.specs.Documents.{PlainDocument, circuit, pattern, traced, two, graph, gates}
-use Rattle.mc_document.specs.Documents.{IsAnyCertOf, IsDocument, IsTaken, cert_behind, change_behind}
-use Rattle.mc_document.specs.Documents.{document_text, gates_in, refused_kind, two_in}
+use Rattle.mc_document.specs.Documents.{IsAnyCertOf, IsDocument, IsTaken, cert_behind}
+use Rattle.mc_document.specs.Documents.{change_behind, document_text, gates_in, refused_kind, two_in}
 use Rattle.mc_document.specs.Sections.{first_in_kind, first_in_text, spelled, spelled_in_kind}
 use Rattle.mc_document.specs.Turns.{half_of}
 use Rattle.mc_document.proofs.CircuitDocuments.{IsCircuitRead, circuit_clean, circuit_spelled}
 use Rattle.mc_document.proofs.CircuitDocuments.{circuit_stepped}
 use Rattle.mc_document.proofs.CleanTexts.{taken, text_spells}
 use Rattle.mc_document.proofs.GateDocuments.{AreGatesRead, gates_clean, gates_seen, gates_spelled}
-use Rattle.mc_document.proofs.GraphDocuments.{IsAnyCertRead, IsCertRead, IsGraphRead, graph_certified}
-use Rattle.mc_document.proofs.GraphDocuments.{graph_clean, graph_spelled, graph_stepped, has_cert}
+use Rattle.mc_document.proofs.GraphDocuments.{IsAnyCertRead, IsCertRead, IsGraphRead, has_cert}
+use Rattle.mc_document.proofs.GraphDocuments.{graph_certified, graph_clean, graph_spelled}
+use Rattle.mc_document.proofs.GraphDocuments.{graph_stepped}
 use Rattle.mc_document.proofs.Headers.{permitted_half}
 use Rattle.mc_document.proofs.Joined.{first_of_both}
-use Rattle.mc_document.proofs.PatternDocuments.{IsChangeRead, IsPatternRead, IsTraceRead, alone_back}
-use Rattle.mc_document.proofs.PatternDocuments.{change_stands, changed_back, nothing_stands}
+use Rattle.mc_document.proofs.PatternDocuments.{IsChangeRead, IsPatternRead, IsTraceRead}
+use Rattle.mc_document.proofs.PatternDocuments.{alone_back, change_stands, changed_back}
+use Rattle.mc_document.proofs.PatternDocuments.{nothing_stands}
 use Rattle.mc_document.proofs.PatternDocuments.{pattern_clean, pattern_stepped, pattern_taken}
 use Rattle.mc_document.proofs.PatternDocuments.{pattern_valid, second_pattern_stands, trace_stands}
 use Rattle.mc_document.proofs.PatternDocuments.{traced_back, two_back}

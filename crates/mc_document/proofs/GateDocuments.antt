@@ -1,5 +1,5 @@
--- The canonical text of a list of gates is read without a fault, as that list, and says eighths; and
--- where only lists of gates are taken, a document is one.
+-- The canonical text of a list of gates is read without a fault, as that list, and says eighths;
+-- and where only lists of gates are taken, a document is one.
 use Rattle.std.specs.Prelude.{IsTrue, is_some}
 use Rattle.std.proofs.Common.{◌≡◌, ℕ, true, Some, None, refl, inl}
 use Rattle.mc_lex.specs.declared.kind.Kind.TheVariants.{Gates}

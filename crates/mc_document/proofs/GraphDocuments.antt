@@ -1,6 +1,6 @@
--- Open graphs as documents, with a certificate behind them or without: a text without a fault spells
--- one that has the certificate that is due and is valid, and its canonical text is read as it,
--- without a fault, and says its step.
+-- Open graphs as documents, with a certificate behind them or without: a text without a fault
+-- spells one that has the certificate that is due and is valid, and its canonical text is read as
+-- it, without a fault, and says its step.
 use Rattle.std.specs.Prelude.{IsSomeAnd, IsTrue, is_some, ⊤}
 use Rattle.std.proofs.Common.{◌≡◌, ℕ, List, [], ◌∷◌, ◌++◌, Bool, true, false}
 use Rattle.std.proofs.Common.{Option, Some, None, refl, sym, ap, ◌∙◌, inl}

@@ -2,10 +2,10 @@
 use Rattle.std.specs.Prelude.{IsTrue, is_some}
 use Rattle.std.proofs.Common.{◌≡◌, false, None, refl}
 use Rattle.mc_document.specs.Documents.{PlainDocument, circuit, pattern, traced, two, graph}
-use Rattle.mc_document.specs.Documents.{circuit_in, pattern_in, traced_in, two_in, graph_in, cert_in}
-use Rattle.mc_document.specs.Documents.{IsTaken, certified_kinds, circuits_and_patterns, every_kind}
-use Rattle.mc_document.specs.Documents.{every_source, only_circuits, patterns_and_graphs}
-use Rattle.mc_document.specs.Documents.{certified_graphs, two_patterns}
+use Rattle.mc_document.specs.Documents.{circuit_in, pattern_in, traced_in, two_in, graph_in}
+use Rattle.mc_document.specs.Documents.{IsTaken, cert_in, certified_graphs, certified_kinds}
+use Rattle.mc_document.specs.Documents.{circuits_and_patterns, every_kind, every_source}
+use Rattle.mc_document.specs.Documents.{only_circuits, patterns_and_graphs, two_patterns}
 
 pub circuit_seen : (d : PlainDocument) → IsTaken only_circuits d → IsTrue (is_some (circuit_in d))
 circuit_seen (circuit c) h = refl

@@ -57,8 +57,8 @@ abbrev pub first_alone : Rules → List Line → Place → Option (Judgement × 
 first_alone rules lines end =
     or_later (first_in_section rules [] lines end) (first_behind (behind_section lines))
 
--- the first of a pattern or a graph of a version, with angles of so many steps in half a turn, and of
--- what stands behind it
+-- the first of a pattern or a graph of a version, with angles of so many steps in half a turn, and
+-- of what stands behind it
 abbrev pub first_in_pattern : ℕ → Takes → ℕ → List Line → Place → Option (Judgement × Place)
 first_in_pattern half takes version lines end =
     or_later (first_in_section (pattern_rules version) [] lines end)
