@@ -44,23 +44,40 @@ fn verdict(
     }
 }
 
+/// What is printed of the certificate that a text spells.
+fn printed(
+    rt: &impl Abort,
+    alloc: Global,
+    g: &OpenGraph<4>,
+    kind: Kind,
+    text: &str,
+) -> Result<Vec<u8>, Fail>
+    requires { IsCertKind kind }
+{
+    assert!(rt; text.len() < 100);
+    let mut words = Words::new(text.as_bytes());
+    let cert = read_cert(alloc, &mut words, kind, g)?;
+    Ok(print_cert(alloc, g, &cert)?)
+}
+
 #[test]
-fn certificates_are_read_and_written(rt: HostRuntime) -> Result<(), Fail> {
-    let alloc = rt.alloc();
-    let g = path(&rt, alloc)?;
-    let mut words = Words::new(b"depth 2\ng 1 b : c\ng 02 a : b\nend".as_slice());
-    let flow = read_cert(alloc, &mut words, Kind::Flow, &g)?;
-    assert_eq!(&rt; check_cert(&g, &flow), Verdict::Yes);
-    let text = print_cert(alloc, &g, &flow)?;
+fn flows_are_read_and_written(rt: HostRuntime) -> Result<(), Fail> {
+    let g = path(&rt, rt.alloc())?;
+    let text = "depth 2\ng 1 b : c\ng 02 a : b\nend";
+    let found = verdict(&rt, rt.alloc(), &g, Kind::Flow, text)?;
+    assert_eq!(&rt; found, Verdict::Yes);
+    let text = printed(&rt, rt.alloc(), &g, Kind::Flow, text)?;
     let due = b"flow 1\ndepth 2\ng 1 b : c\ng 2 a : b\nend\n".as_slice();
     assert_eq!(&rt; text.as_slice(), due);
-    let mut words = Words::new(b"y b : b a\nend\n".as_slice());
-    let refuter = read_cert(alloc, &mut words, Kind::NoFlow, &g)?;
-    let text = print_cert(alloc, &g, &refuter)?;
+    Ok(())
+}
+
+#[test]
+fn refuters_and_stuck_sets_are_read_and_written(rt: HostRuntime) -> Result<(), Fail> {
+    let g = path(&rt, rt.alloc())?;
+    let text = printed(&rt, rt.alloc(), &g, Kind::NoFlow, "y b : b a\nend\n")?;
     assert_eq!(&rt; text.as_slice(), b"noflow 1\ny b : a b\nend\n".as_slice());
-    let mut words = Words::new(b"b c a\nend\n".as_slice());
-    let stuck = read_cert(alloc, &mut words, Kind::NoCausal, &g)?;
-    let text = print_cert(alloc, &g, &stuck)?;
+    let text = printed(&rt, rt.alloc(), &g, Kind::NoCausal, "b c a\nend\n")?;
     assert_eq!(&rt; text.as_slice(), b"nocausal 1\nb a c\nend\n".as_slice());
     Ok(())
 }
@@ -106,12 +123,11 @@ fn false_refuters_and_stuck_sets_are_found(rt: HostRuntime) -> Result<(), Fail> 
 
 #[test]
 fn bounds_are_read_and_written(rt: HostRuntime) -> Result<(), Fail> {
-    let alloc = rt.alloc();
-    let g = path(&rt, alloc)?;
-    let mut words = Words::new(b"depth 2\nl 1 b\nl 02 a\ny 1 a : a\nend\n".as_slice());
-    let bound = read_cert(alloc, &mut words, Kind::Least, &g)?;
-    assert_eq!(&rt; check_cert(&g, &bound), Verdict::Yes);
-    let text = print_cert(alloc, &g, &bound)?;
+    let g = path(&rt, rt.alloc())?;
+    let text = "depth 2\nl 1 b\nl 02 a\ny 1 a : a\nend\n";
+    let found = verdict(&rt, rt.alloc(), &g, Kind::Least, text)?;
+    assert_eq!(&rt; found, Verdict::Yes);
+    let text = printed(&rt, rt.alloc(), &g, Kind::Least, text)?;
     let due = b"least 1\ndepth 2\nl 1 b\nl 2 a\ny 1 a : a\nend\n".as_slice();
     assert_eq!(&rt; text.as_slice(), due);
     Ok(())

@@ -1,5 +1,17 @@
+ghost use Rattle.std.specs.Prelude.{◌≤◌, length};
+ghost use Rattle.mc_model.specs.Limits.{most_bytes};
+
 use super::*;
+use std::alloc::Global;
 use std::test::Fail;
+
+/// What is printed of the document that a text spells.
+fn printed(alloc: Global, text: &[u8]) -> Result<Vec<u8>, Fail>
+    requires { length text.now ≤ most_bytes }
+{
+    let read = read_document::<4>(alloc, text, Takes::all())?;
+    Ok(print_document(alloc, &read)?)
+}
 
 /// Reads texts as documents, and compares what is printed of them.
 #[test]
@@ -11,9 +23,10 @@ fn reads_and_prints(rt: HostRuntime) -> Result<(), Fail> {
         "graph 2\nin a\nn b\ne a b\nm a 1\nout b\nz b\nend\nnoflow 1\ny a : a\nend\n",
         "gates 1\nin a\nx a\nout a\nend\n",
     ] {
-        let read = read_document::<4>(alloc, text.as_bytes(), Takes::all())?;
-        let printed = print_document(alloc, &read)?;
-        assert_eq!(&rt; printed.as_slice(), text.as_bytes());
+        assert_eq!(&rt;
+            printed(alloc, text.as_bytes())?.as_slice(),
+            text.as_bytes()
+        );
     }
     Ok(())
 }
