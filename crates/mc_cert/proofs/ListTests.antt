@@ -42,10 +42,6 @@ any_step p xs i x e t kept =
     sym (sym kept ∙ ap (list_any p) (drop_at xs i x e)
     ∙ ap (λ (b : Bool). b || list_any p (drop (i + 1) xs)) t)
 
-pub any_end : {A : Type 0} (p : A → Bool) (xs : List A) (i : ℕ) → length xs ≤ i →
-    list_any p (drop i xs) ≡ list_any p xs → false ≡ list_any p xs
-any_end p xs i l kept = ap (list_any p) (sym (drop_all i xs l)) ∙ kept
-
 -- ---- numbers
 
 any_by : (p : Bits) (q n w : ℕ) (b : Bool) → p q ≡ b → (b ≡ false → q ≡ w → ⊥) →

@@ -11,20 +11,6 @@ use Rattle.mc_model.specs.Pattern.{Gate, J, CZ}
 use Rattle.mc_model.specs.Valid.{GatesFit}
 use Rattle.mc_circuit.specs.Circuits.{IsBegun, AnglesFit, broken_rule}
 
--- without gates the names may change
-pub begun_with : (half : ℕ) (names names' : List Name) (inputs : ℕ) (gates : List Gate)
-    → IsBegun half (record { names = names; inputs = inputs; outputs = []; gates = gates })
-    → gates ≡ [] → AreNames names' → length names ≤ length names'
-    → IsBegun half (record { names = names'; inputs = inputs; outputs = []; gates = gates })
-begun_with half names names' inputs gates h none valid longer = record {
-  permitted = h.permitted;
-  names = valid;
-  inputs = let i = h.inputs in omega arith;
-  gates = subst (λ (gs : List Gate). GatesFit (length names') gs) (sym none) tt;
-  few = h.few;
-  angles = h.angles;
-}
-
 -- a gate that breaks no rule
 fits_by : (wires v u : ℕ) (t s r : Bool) → nat_lt v wires ≡ t → nat_lt u wires ≡ s → nat_eq v u ≡ r
     → broken_rule wires (CZ v u) ≡ None → GatesFit wires (CZ v u ∷ [])

@@ -191,36 +191,5 @@ next_round g layer k order basis h = record {
 
 -- ---- counts
 
-pub counts_none : (n s : ℕ) (basis : Inserted) → CountsColumns n s s basis basis
-counts_none n s basis = record { rise = omega arith; most = omega arith; added = λ _ e. e }
-
-pub counts_more : (n s t u : ℕ) (a b c : Inserted) → CountsColumns n s t a b →
-    CountsColumns n t u b c → CountsColumns n s u a c
-counts_more n s t u a b c h f =
-    let x = h.rise in
-    let y = f.rise in
-    let p = h.most in
-    let q = f.most in
-    record {
-      rise = omega arith;
-      most = omega arith;
-      added = λ e no. f.added (omega arith) (h.added (omega arith) no);
-    }
-
 or_false : (a : Bool) → a || false ≡ a
 or_false a = grind arith
-
-pub counts_one : (n s t : ℕ) (before after : Inserted) → count_of after ≡ count_of before + 1 →
-    s ≤ t → t ≤ s + 2 * n → after.has_added ≡ before.has_added || nat_lt s t →
-    CountsColumns n s t before after
-counts_one n s t before after e rise most added =
-    let product : 2 * n * count_of after ≡ 2 * n * count_of before + 2 * n =
-    ap (λ (a : ℕ). 2 * n * a) e ∙ omega arith in
-    record {
-      rise = rise;
-      most = omega arith;
-      added = λ same no.
-          added
-          ∙ ap (λ (b : Bool). before.has_added || b) (le-ltb s t (omega arith))
-          ∙ or_false before.has_added ∙ no;
-    }

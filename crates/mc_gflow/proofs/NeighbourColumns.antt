@@ -75,10 +75,6 @@ neighbour_more ns i keep old new told rise l e held step v =
     (λ s. e ∙ ap keep (sym (eqb-true v q s)))
     ∙ ap (λ (b : Bool). b && keep v) (sym (member_more ns i v l))
 
-pub no_neighbours : (n v : ℕ) (ns : List ℕ) (keep : Bits) (row : List Bool) →
-    row ≡ replicate n false → bit_of row v ≡ is_member (take 0 ns) v && keep v
-no_neighbours n v ns keep row e = ap (λ (r : List Bool). bit_of r v) e ∙ no_bits n v
-
 pub all_neighbours : (es : List Edge) (n w i v : ℕ) (ns : List ℕ) (keep b : Bool) →
     ns ≡ numbers_where (joins es w) n → length ns ≤ i → v < n →
     b ≡ is_member (take i ns) v && keep → b ≡ joins es v w && keep

@@ -201,21 +201,6 @@ stuck_unsolved g layer none k sets order basis h u un e f =
 
 -- ---- rows that are written
 
-pub square_stays : (n u : ℕ) (rows : List (List Bool)) (row : List Bool) → HasSquare n rows →
-    u < n → length row ≡ n → HasSquare n (slice_set rows u row)
-square_stays n u rows row h l e = record {
-  count = length-set rows u row ∙ h.count;
-  width = λ i il. elim (same_or_not i u) [
-    | inl same ↦
-        let within : u < length rows = let c = h.count in omega arith in
-        ap (λ (a : ℕ). length (row_at (slice_set rows u row) a)) same
-        ∙ ap (λ (r : List Bool). length r) (get_or-set_same rows u row [] within)
-        ∙ e
-    | inr ne ↦
-        ap (λ (r : List Bool). length r) (get_or-set_other rows u i row [] ne) ∙ h.width i il
-  ];
-}
-
 pub row_here : (rows : List (List Bool)) (u : ℕ) (row : List Bool) → u < length rows →
     entry (slice_set rows u row) u ≡ bit_of row
 row_here rows u row l = ap bit_of (get_or-set_same rows u row [] l)

@@ -29,9 +29,6 @@ name_no_constant word named = by_test (is_constant word) refl
     by_test false e = refl
     by_test true e = let named' = rw (← constant_is word e) at named in absurd (cc named')
 
-pub constant_no_mark : (word : List ℕ) → is_constant word ≡ true → mark_of word ≡ None
-constant_no_mark word e = rw (← constant_is word e) refl
-
 -- a name stands among the words exactly where it stands among the names
 held_among : (words : Words) (word : List ℕ) → is_constant word ≡ false
     → is_held words word ≡ is_held (names_among words) word

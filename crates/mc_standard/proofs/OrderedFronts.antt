@@ -170,15 +170,7 @@ stays_further cs (suc k) within tidy follows =
     stays_next cs k within tidy
     (subst (λ (n : ℕ). FollowsAt n cs) e (follows (omega arith)))
 
--- a use on one command, or on two
-pub settles_one : (cs ds : List Command) (k : ℕ) (rule : Rule) → SettlesAt rule (k + 1) cs ds →
-    Settles k (record { place = k + 1; rule = rule }) cs ds
-settles_one cs ds k rule h = record {
-  behind_none = omega arith;
-  improves = h;
-  settled = stays_back cs k (k + 1 - 1) (omega arith);
-}
-
+-- a use on two commands
 pub settles_two : (cs ds : List Command) (k : ℕ) (rule : Rule) → 0 < k →
     SettlesAt rule (k - 1 + 1) cs ds → Settles k (record { place = k; rule = rule }) cs ds
 settles_two cs ds k rule positive h =
