@@ -1,10 +1,10 @@
 -- What builders of circuits keep.
 use Rattle.std.proofs.Common.{◌≡◌, ℕ, ◌≤◌, ◌<◌, ◌↔◌, Bool, true, false, nat_lt, nat_eq, List, []}
 use Rattle.std.proofs.Common.{◌∷◌, ◌++◌, length, take, replicate, slice_index_or, None, sym, ◌∙◌}
-use Rattle.std.proofs.Common.{subst, refl, arith, length-append}
+use Rattle.std.proofs.Common.{refl, arith, length-append}
 use Rattle.std.proofs.lemmas.Bool.{ltb-true, eq-eqb, true≢false}
 use Rattle.std.proofs.lemmas.List.{length-take-le, get_or-take, get_or-replicate}
-use Rattle.mc_model.specs.Names.{Name, AreNames}
+use Rattle.mc_model.specs.Names.{Name}
 use Rattle.mc_model.specs.Numbers.{ListsOnce}
 use Rattle.mc_lists.proofs.Counted.{ListsOnce-same}
 use Rattle.mc_model.specs.Pattern.{Gate, J, CZ}

@@ -1,10 +1,9 @@
 -- Candidates that are inserted one after another.
-use Rattle.std.specs.Prelude.{◌≡◌, ◌≢◌, ◌⊎◌, ℕ, ◌+◌, ◌*◌, ◌<◌}
-use Rattle.std.specs.Prelude.{◌≤◌, Bool, true, false, ◌||◌, nat_lt}
+use Rattle.std.specs.Prelude.{◌≡◌, ◌≢◌, ◌⊎◌, ℕ, ◌+◌, ◌<◌}
+use Rattle.std.specs.Prelude.{◌≤◌, Bool, true, false, ◌||◌}
 use Rattle.std.specs.Prelude.{List, [], ◌∷◌, ◌++◌, length, refl}
 use Rattle.std.proofs.Common.{arith, sym, ap, subst, ◌∙◌, inl, inr, length-append}
 use Rattle.std.proofs.lemmas.List.{get_or_append_left, get_or_push}
-use Rattle.std.proofs.lemmas.Bool.{le-ltb}
 use Rattle.mc_model.specs.Bits.{Bits}
 use Rattle.mc_model.specs.Graph.{OpenGraph, size, is_input}
 use Rattle.mc_model.specs.Choice.{IsLaterCandidate}
@@ -14,7 +13,7 @@ use Rattle.mc_elim.specs.Tables.{row_at}
 use Rattle.mc_elim.specs.Basis.{Inserted, count_of, columns_of}
 use Rattle.mc_elim.proofs.NoMoreThanRows.{no_more_than, room_for_one}
 use Rattle.mc_elim.proofs.BitSums.{clash, last_or_before, same_or_not, two_sides}
-use Rattle.mc_gflow.specs.Layers.{IsBefore, column_of, HoldsCandidates, CountsColumns}
+use Rattle.mc_gflow.specs.Layers.{IsBefore, column_of, HoldsCandidates}
 
 module _ (g : OpenGraph) (layer : ℕ → ℕ) (k x : ℕ) (order : ℕ → ℕ) (basis : Inserted)
     (h : HoldsCandidates g layer k x order basis) where

@@ -1,7 +1,7 @@
 -- A column that is written from a list of neighbours.
 use Rattle.std.specs.Prelude.{◌≡◌, ℕ, zero, suc, ◌+◌, ◌<◌, ◌≤◌, Bool, true, false}
 use Rattle.std.specs.Prelude.{◌&&◌, ◌||◌, nat_eq, nat_lt, List, [], ◌∷◌, length, take}
-use Rattle.std.specs.Prelude.{slice_index, replicate, refl}
+use Rattle.std.specs.Prelude.{slice_index, refl}
 use Rattle.std.proofs.Common.{arith, sym, ap, ap₂, ◌∙◌}
 use Rattle.std.proofs.lemmas.Bool.{ne_eqb, lt-ltb, eqb-true}
 use Rattle.std.proofs.lemmas.List.{take_more, take_all}
@@ -11,8 +11,6 @@ use Rattle.mc_model.specs.Numbers.{is_member, numbers_where}
 use Rattle.mc_model.specs.Signals.{IsRising, AllAbove}
 use Rattle.mc_model.specs.Graph.{Edge, joins}
 use Rattle.mc_model.proofs.NumberLists.{member_once, count-where}
-use Rattle.mc_bits.specs.Rows.{bit_of}
-use Rattle.mc_bits.proofs.RowsByBits.{no_bits}
 
 either_way : (p q r s : Bool) → (p && q) || (r && s) ≡ (s && r) || (q && p)
 either_way p q r s = grind arith

@@ -3,7 +3,7 @@ use Rattle.std.specs.Prelude.{◌≡◌, ◌≢◌, ◌⊎◌, ℕ, zero, suc, �
 use Rattle.std.specs.Prelude.{◌≤◌, Bool, true, false, ◌&&◌, cond}
 use Rattle.std.specs.Prelude.{nat_eq, List, [], length, slice_index, slice_set, replicate, refl}
 use Rattle.std.proofs.Common.{arith, sym, ap, ap₂, subst, ◌∙◌, inl, inr, get_or-set_same}
-use Rattle.std.proofs.Common.{get_or-set_other, length-set}
+use Rattle.std.proofs.Common.{get_or-set_other}
 use Rattle.std.proofs.lemmas.Bool.{eq-eqb, ne_eqb}
 use Rattle.std.proofs.lemmas.List.Sums.{sum_by-set}
 use mathlib.Core.Path.{fun_ext}
@@ -15,12 +15,12 @@ use Rattle.mc_model.proofs.OddSums.{odd-same, odd-none}
 use Rattle.mc_bits.specs.Rows.{bit_of}
 use Rattle.mc_bits.proofs.RowsByBits.{no_bits}
 use Rattle.mc_elim.specs.Systems.{Solves, IsLeast}
-use Rattle.mc_elim.specs.Tables.{row_at, entry}
+use Rattle.mc_elim.specs.Tables.{entry}
 use Rattle.mc_elim.specs.Basis.{Inserted, count_of, columns_of, IsLeastSolution, HasSolution}
 use Rattle.mc_elim.specs.Basis.{HasNoSolution, HasOneColumn}
 use Rattle.mc_elim.proofs.BitSums.{and_comm, last_or_before, same_or_not, odd-last, odd-pick}
 use Rattle.mc_gflow.specs.Layers.{IsCorrection, HoldsLayers, TakenUpTo, IsStuck, AreAlone}
-use Rattle.mc_gflow.specs.Layers.{HasSquare, untaken, vertices_of}
+use Rattle.mc_gflow.specs.Layers.{untaken, vertices_of}
 use Rattle.mc_gflow.proofs.CandidateSets.{least_correction, correction_solves, columns_in}
 use Rattle.mc_gflow.proofs.CandidateSets.{solution_corrects}
 use Rattle.mc_gflow.proofs.LayersTaken.{Takes, same_below, same_back, correction_alike}

@@ -11,7 +11,6 @@ use Rattle.std.proofs.lemmas.Slice.Eq.{slice_eq-Decides}
 use Rattle.mc_model.specs.Bits.{Bits}
 use Rattle.mc_model.specs.Numbers.{is_member}
 use Rattle.mc_model.specs.Names.{name_eq, is_held, place_of}
-use Rattle.mc_names.specs.Stored.{name_eq-true}
 use Rattle.mc_text.specs.declared.fault.Fault.TheVariants.{Measured, SameOperand, ListedTwice}
 use Rattle.mc_text.specs.Judged.{fault}
 use Rattle.mc_text.specs.Rules.{known_name, number_in, AreNumbers}

@@ -10,7 +10,6 @@ use Rattle.mc_model.specs.Signals.{toggled_all}
 use Rattle.mc_names.specs.Stored.{name_eq-true}
 use Rattle.mc_signal.proofs.Members.{is_member-toggled, toggled_all-single}
 use Rattle.mc_text.specs.declared.fault.Fault.TheVariants.{ListedTwice, NotMeasured}
-use Rattle.mc_text.specs.Points.{mark_of}
 use Rattle.mc_text.specs.Judged.{fault, Words}
 use Rattle.mc_text.specs.Rules.{known_name}
 use Rattle.mc_pattern_text.specs.Value.{is_constant, names_among}
