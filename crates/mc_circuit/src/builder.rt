@@ -2,7 +2,7 @@
 
 ghost use Rattle.std.specs.Prelude.{◌≡◌, ◌↔◌, ℕ, ◌<◌, ◌≤◌, [], ◌∷◌, ◌++◌, length, map, Err};
 ghost use Rattle.std.specs.Prelude.{Some};
-ghost use Rattle.std.specs.Prelude.{None, OnOk, IfOk, OnErr, IfErr, IsTrue, true, nat_lt};
+ghost use Rattle.std.specs.Prelude.{None, OnOk, IfOk, OnErr, IfErr, IsTrue, true};
 ghost use Rattle.mc_model.specs.Steps.{is_permitted};
 ghost use Rattle.mc_model.specs.Limits.{most_qubits, most_gates};
 ghost use Rattle.mc_model.specs.Names.{place_of};

@@ -1,12 +1,12 @@
 //! Building open graphs.
 
-ghost use Rattle.std.specs.Prelude.{◌≡◌, ◌↔◌, ℕ, ◌<◌, ◌≤◌, [], All, length, replicate, Err, Some};
+ghost use Rattle.std.specs.Prelude.{◌≡◌, ◌↔◌, ℕ, ◌<◌, ◌≤◌, All, Err, Some};
 ghost use Rattle.std.specs.Prelude.{None, OnOk, IfOk, OnErr, IfErr, IsErrAnd, IsTrue, true};
 ghost use Rattle.std.specs.List.{list_any};
 ghost use Rattle.mc_model.specs.Names.{place_of};
 ghost use Rattle.mc_model.specs.Numbers.{numbers_from};
 ghost use Rattle.mc_model.specs.Steps.{is_permitted};
-ghost use Rattle.mc_model.specs.Graph.{size, not_fixed, fixed_at, joins as is_joined};
+ghost use Rattle.mc_model.specs.Graph.{size, fixed_at};
 ghost use Rattle.mc_graph.specs.Rules.{has_angle as is_measured, edge_rule as broken_edge};
 ghost use Rattle.mc_graph.specs.Rules.{angle_rule as broken_angle, fix_rule as broken_fix};
 ghost use Rattle.mc_graph.specs.Rules.{output_rule as broken_outputs};

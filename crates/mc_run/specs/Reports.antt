@@ -1,9 +1,9 @@
 -- Reports on all branches of a pattern.
-use Rattle.std.specs.Prelude.{◌≡◌, ℕ, ◌*◌, ◌^◌, ◌<◌, ℤ, List, [], ◌∷◌, length, slice_index_or}
+use Rattle.std.specs.Prelude.{◌≡◌, ℕ, ◌*◌, ◌^◌, ◌<◌, ℤ, List, length, slice_index_or}
 use Rattle.std.specs.Prelude.{Option, MatchOption}
 use Rattle.mc_model.specs.Bits.{Bits}
 use Rattle.mc_model.specs.Ring.{ring}
-use Rattle.mc_model.specs.Pattern.{Command, Prep, Ent, Meas, FixX, FixZ, Pattern, measured_order}
+use Rattle.mc_model.specs.Pattern.{Pattern, measured_order}
 use Rattle.mc_model.specs.Amplitude.{placed, branch_map, pattern_scale}
 use Rattle.mc_pattern.specs.Patterns.{measured_count}
 use Rattle.mc_cyclo.specs.Phase.{IsPhase}

@@ -1,6 +1,6 @@
 //! Making sample circuits.
 
-ghost use Rattle.std.specs.Prelude.{◌≡◌, ◌<◌, ◌≤◌, [], ◌∷◌, ◌++◌, length, map, true, IfOk, OnOk};
+ghost use Rattle.std.specs.Prelude.{◌≡◌, ◌<◌, ◌≤◌, [], ◌∷◌, ◌++◌, map, IfOk, OnOk};
 ghost use Rattle.mc_model.specs.Numbers.{numbers_from};
 ghost use Rattle.mc_sample.specs.Generator.{next_number as following, wire_by as wire_of};
 ghost use Rattle.mc_sample.specs.Generator.{angle_by as angle_of, other_by as other_of, gates_by};

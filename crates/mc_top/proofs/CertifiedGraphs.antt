@@ -1,14 +1,9 @@
 -- A graph with a certificate, as a document has it.
-use Rattle.std.proofs.Common.{◌≡◌, ℕ, Some, None, refl, subst}
+use Rattle.std.proofs.Common.{◌≡◌, ℕ, Some, None, subst}
 use Rattle.mc_model.specs.Graph.{OpenGraph}
 use Rattle.mc_cert_text.specs.Certs.{PlainCert, IsCertOf}
 use Rattle.mc_document.specs.Documents.{IsDocument, PlainDocument, cert_in, circuit, graph, graph_in}
 use Rattle.mc_document.specs.Documents.{gates, pattern, traced, two}
-use Rattle.mc_top.specs.Check.{certified_in}
-
-pub certified_is : (d : PlainDocument) (g : OpenGraph) (cert : PlainCert) → graph_in d ≡ Some g →
-    cert_in d ≡ Some cert → certified_in d ≡ Some (g, cert)
-certified_is d g cert found behind = rw (found, behind) refl
 
 pub certified_fits : (half : ℕ) (d : PlainDocument) (g : OpenGraph) (cert : PlainCert) →
     IsDocument half d → graph_in d ≡ Some g → cert_in d ≡ Some cert → IsCertOf g cert

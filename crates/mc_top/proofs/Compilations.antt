@@ -1,5 +1,5 @@
 -- What is due and what is meant where a circuit is compiled.
-use Rattle.std.proofs.Common.{◌≡◌, ℕ, ◌<◌, ◌≤◌, List, Option, Some, None, Result, Ok, Err, refl}
+use Rattle.std.proofs.Common.{◌≡◌, ℕ, ◌<◌, ◌≤◌, List, Option, Some, Result, Ok, Err, refl}
 use Rattle.std.proofs.Common.{sym, subst}
 use Rattle.std.specs.Prelude.{IsSomeAnd}
 use Rattle.mc_lex.specs.declared.end.TextEnd.{TextEnd}

@@ -31,11 +31,11 @@ use Rattle.mc_top.specs.Commands.{beside, chain, check, command_of, compile, ext
 use Rattle.mc_top.specs.Commands.{lower, make, trace}
 use Rattle.mc_top.specs.Compile.{IsCompiledText, IsDueCompile}
 use Rattle.mc_top.specs.Due.{Due, IsDueUnless, answer, holding}
-use Rattle.mc_top.specs.Extract.{IsCircuitDue, IsExtractDue, IsExtractionDue, IsStuckDue}
+use Rattle.mc_top.specs.Extract.{IsExtractDue, IsExtractionDue}
 use Rattle.mc_top.specs.Extract.{gate_limit}
-use Rattle.mc_top.specs.Flow.{IsFlowDue, IsFoundDue, IsRefuterDue}
+use Rattle.mc_top.specs.Flow.{IsFoundDue}
 use Rattle.mc_top.specs.GraphSource.{source_graph}
-use Rattle.mc_top.specs.Make.{IsMadeDue, IsMakingDue}
+use Rattle.mc_top.specs.Make.{IsMakingDue}
 use Rattle.mc_cert.specs.Bounds.{BoundRows}
 use Rattle.mc_top.specs.Least.{IsBoundFoundDue, IsLeastDue, size_limit}
 use Rattle.mc_top.specs.Serve.{IsDue, IsDueIn, IsDueSpelled, too_long}

@@ -48,11 +48,7 @@ pub record AreSeen : Type 0 where
   pub two : (d : PlainDocument) → IsTaken two_patterns d → IsTrue (is_some (two_in d))
   pub judged : EveryTraceIsJudged
 
--- what there is of an option
-some_value : {A : Type 0} (o : Option A) → IsTrue (is_some o) → (x : A) × (o ≡ Some x)
-some_value None h = absurd (cc h)
-some_value (Some x) h = (x, refl)
-
+-- what a function makes of an option that has something
 mapped : {A B : Type 0} (f : A → B) (o : Option A) → IsTrue (is_some o) →
     (y : B) × (option_map f o ≡ Some y)
 mapped f None h = absurd (cc h)

@@ -4,7 +4,7 @@ use Rattle.std.specs.Prelude.{false, Bool, List, ℤ, codes, Some}
 use Rattle.std.specs.Prelude.{Option, MatchOption, IsSomeAnd}
 use Rattle.std.specs.Option.{option_map, option_or}
 use Rattle.mc_model.specs.Bits.{Bits}
-use Rattle.mc_model.specs.Ring.{Element, ring}
+use Rattle.mc_model.specs.Ring.{ring}
 use Rattle.mc_model.specs.Pattern.{Circuit, Pattern}
 use Rattle.mc_model.specs.Valid.{measured}
 use Rattle.mc_model.specs.Amplitude.{branch_map, circuit_table, circuit_scale, pattern_scale}

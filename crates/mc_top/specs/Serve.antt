@@ -1,6 +1,6 @@
 -- What the bytes that come in call for.
-use Rattle.std.specs.Prelude.{◌≡◌, ◌≢◌, ◌⊎◌, ℕ, suc, ◌<◌, List, length, nat_lt, if◌then◌else◌}
-use Rattle.std.specs.Prelude.{Bool, true, false, Option, None, Some, ⊤, Result, Ok, Err, IsSomeAnd}
+use Rattle.std.specs.Prelude.{◌≡◌, ◌≢◌, ◌⊎◌, ℕ, suc, List, length, nat_lt, if◌then◌else◌}
+use Rattle.std.specs.Prelude.{Bool, true, false, Option, None, Some, ⊤, Ok, Err, IsSomeAnd}
 use Rattle.mc_io.specs.Calls.{Reads, ReadsOn, ReadsOnThen}
 use Rattle.mc_io.specs.Told.{AppendsWhereTold, AppendsPrefix}
 use Rattle.mc_io.specs.Faults.{Rose}

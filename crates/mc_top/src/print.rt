@@ -1,6 +1,6 @@
 //! `print`: a document in canonical spelling.
 
-ghost use Rattle.std.specs.Prelude.{◌≡◌, OnOk, IfOk, IsSomeAnd, IsTrue};
+ghost use Rattle.std.specs.Prelude.{OnOk, IfOk, IsSomeAnd, IsTrue};
 ghost use Rattle.mc_model.specs.Steps.{is_permitted};
 ghost use Rattle.mc_document.specs.Documents.{IsDocument, plain_document};
 ghost use Rattle.mc_document.specs.Kinds.{IsTaken, every_kind};

@@ -1,6 +1,6 @@
 //! `run`: the table of a circuit, or of all branches of a pattern or of a graph.
 
-ghost use Rattle.std.specs.Prelude.{◌≡◌, OnOk, IfOk, IsSomeAnd, IsTrue};
+ghost use Rattle.std.specs.Prelude.{OnOk, IfOk, IsSomeAnd, IsTrue};
 ghost use Rattle.mc_model.specs.Graph.{zero_pattern as bare_pattern};
 ghost use Rattle.mc_model.specs.Steps.{is_permitted};
 ghost use Rattle.mc_document.specs.Documents.{plain_document};

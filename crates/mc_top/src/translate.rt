@@ -1,6 +1,6 @@
 //! `translate`: the pattern of a circuit.
 
-ghost use Rattle.std.specs.Prelude.{◌≡◌, OnOk, IfOk, IsSomeAnd, IsTrue};
+ghost use Rattle.std.specs.Prelude.{OnOk, IfOk, IsSomeAnd, IsTrue};
 ghost use Rattle.mc_model.specs.Amplitude.{HasTableAtEachBranch};
 ghost use Rattle.mc_model.specs.Ring.{ring};
 ghost use Rattle.mc_model.specs.Steps.{is_permitted};

@@ -1,6 +1,6 @@
 //! Whether commands are those of a rule's line, and what the rule makes of them.
 
-ghost use Rattle.std.specs.Prelude.{◌≡◌, ℕ, List, [], ◌∷◌, IfOk, MatchOption};
+ghost use Rattle.std.specs.Prelude.{◌≡◌, List, [], ◌∷◌, IfOk, MatchOption};
 ghost use Rattle.mc_model.specs.Derivation.{Rewrites, Turn, DropEmpty, XE, XM, ZM, Join};
 ghost use Rattle.mc_model.specs.Pattern.{Command as Plain};
 ghost use Rattle.mc_model.specs.Signals.{signal_sum};

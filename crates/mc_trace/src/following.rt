@@ -1,6 +1,6 @@
 //! Uses of rules that are given, and not chosen.
 
-ghost use Rattle.std.specs.Prelude.{◌≡◌, ◌⊎◌, ◌+◌, ◌<◌, ◌≤◌, ℕ, length, map, IfOk, OnErr};
+ghost use Rattle.std.specs.Prelude.{◌≡◌, ◌⊎◌, ◌+◌, ◌<◌, ◌≤◌, length, map, IfOk, OnErr};
 ghost use Rattle.std.specs.Prelude.{MatchOption, MatchBool};
 ghost use Rattle.mc_pattern.specs.Commands.{plain_command};
 ghost use Rattle.mc_standard.specs.Uses.{plain_rule, plain_use};

@@ -1,4 +1,4 @@
-use Rattle.std.proofs.Common.{◌≡◌, Err, None, subst}
+use Rattle.std.proofs.Common.{◌≡◌, None, subst}
 use Rattle.mc_text.specs.Stops.{IsEnd}
 use Rattle.mc_document.specs.declared.takes.Takes.{Takes}
 use Rattle.mc_document.specs.Documents.{plain_document}
