@@ -38,7 +38,7 @@ use Rattle.mc_cert_text.specs.Certs as cert
 use Rattle.mc_document.specs.Documents as document
 use Rattle.mc_document.specs.Documents.{document_text, IsDocument, PlainDocument}
 use Rattle.mc_document.specs.declared.takes.Takes as takes
-use Rattle.mc_document.specs.Kinds.{circuits_and_patterns, every_source, IsTaken}
+use Rattle.mc_document.specs.Documents.{circuits_and_patterns, every_source, IsTaken}
 use Rattle.mc_document.specs.Places.{first_place}
 use Rattle.mc_document.specs.Sections.{first_in_text, spelled}
 use Rattle.mc_document.specs.Turns.{first_words, half_of}
@@ -229,7 +229,7 @@ module _ (laws : ChosenLaws) (half : ℕ) where
   trace_due (document.traced p uses) valid taken = pattern_due p valid.0.valid
   trace_due (document.two p q line column) valid taken = absurd (cc taken.1)
   trace_due (document.graph g c) valid taken = absurd (cc taken.0)
-  trace_due (document.gates g) valid taken = absurd (cc taken)
+  trace_due _ valid taken = absurd (cc taken)
 
   -- ---- what is due for a circuit
 
@@ -275,7 +275,7 @@ module _ (laws : ChosenLaws) (half : ℕ) where
     compile_due (document.traced p uses) valid taken = absurd (cc taken.0)
     compile_due (document.two p q line column) valid taken = absurd (cc taken.0)
     compile_due (document.graph g c) valid taken = absurd (cc taken.0)
-    compile_due (document.gates g) valid taken = absurd (cc taken)
+    compile_due _ valid taken = absurd (cc taken)
 
     -- ---- what is due for a document
 
@@ -291,7 +291,7 @@ module _ (laws : ChosenLaws) (half : ℕ) where
     source_few (document.traced p uses) valid taken none = pattern_few p valid.0.valid
     source_few (document.two p q line column) valid taken none = absurd (cc taken.1)
     source_few (document.graph g c) valid taken none = valid.0.open_graph.names.few
-    source_few (document.gates g) valid taken none = absurd (cc taken)
+    source_few _ valid taken none = absurd (cc taken)
 
     chosen_due : (asked : Asked) (place : Place) (d : PlainDocument) → chooses asked ≡ true →
         IsDocument half d → IsTaken (command_of asked).takes d →

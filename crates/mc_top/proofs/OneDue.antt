@@ -183,15 +183,11 @@ one_compile : FormLaws → (half : ℕ) → IsTrue (is_permitted half) → (d : 
 one_compile laws half permitted (document.circuit c) valid =
     one_where (translation_limit c) (IsCompiledText half c)
     (λ none. one_compiled laws half permitted c valid.valid (few_qubits c none))
-one_compile laws half permitted (document.pattern p change) valid = λ due due' h h'. absurd h
-one_compile laws half permitted (document.traced p uses) valid = λ due due' h h'. absurd h
-one_compile laws half permitted (document.two p q line column) valid = λ due due' h h'. absurd h
-one_compile laws half permitted (document.graph g cert) valid = λ due due' h h'. absurd h
-one_compile laws half permitted (document.gates g) valid = λ due due' h h'. absurd h
+one_compile laws half permitted _ valid = λ due due' h h'. absurd h
 
 one_command : CausalLaws → FormLaws → (half : ℕ) → IsTrue (is_permitted half) →
-    (asked : Asked) → (asked ≡ trace → ⊥) → (place : Place) (d : PlainDocument) → IsDocument half d →
-    IsOne ((command_of asked).IsDue half place d)
+    (asked : Asked) → (asked ≡ trace → ⊥) → (place : Place) (d : PlainDocument) →
+    IsDocument half d → IsOne ((command_of asked).IsDue half place d)
 one_command causal laws half permitted translate other place d valid = one_some _
 one_command causal laws half permitted print other place d valid = one_some _
 one_command causal laws half permitted standard other place d valid = one_some _

@@ -15,8 +15,8 @@ use Rattle.mc_model.proofs.StepLemmas.{permitted_positive}
 use Rattle.mc_pattern.specs.Patterns.{IsPattern}
 use Rattle.mc_rules.specs.Laws.{DerivationsKeepPatterns}
 use Rattle.mc_cert_text.specs.Certs.{PlainCert}
-use Rattle.mc_document.specs.Documents.{IsDocument, PlainDocument, circuit, pattern, traced, two}
-use Rattle.mc_document.specs.Documents.{graph, gates, cert_in, graph_in, pattern_in, traced_in}
+use Rattle.mc_document.specs.Documents.{IsDocument, PlainDocument, cert_in, graph_in}
+use Rattle.mc_document.specs.Documents.{pattern_in, traced, traced_in}
 use Rattle.mc_trace_text.specs.Traces.{CanBeWritten}
 use Rattle.mc_top.specs.declared.answer.Answer.{Answer}
 use Rattle.mc_top.specs.Check.{IsDueCheck, IsDueTraced, MeansCheck, MeansTraceVerdict, MeansVerdict}
@@ -84,13 +84,9 @@ places_fit uses few places = record {
 
 pub traced_few : (half : ℕ) (d : PlainDocument) (uses : List Use) → IsDocument half d →
     traced_in d ≡ Some uses → length uses ≤ 65536
-traced_few half (circuit c) uses valid behind = absurd (cc behind)
-traced_few half (pattern p change) uses valid behind = absurd (cc behind)
 traced_few half (traced p us) uses valid behind =
     let e : us ≡ uses = cc behind in subst (λ (xs : List Use). length xs ≤ 65536) e valid.1.few
-traced_few half (two p q line column) uses valid behind = absurd (cc behind)
-traced_few half (graph g cert) uses valid behind = absurd (cc behind)
-traced_few half (gates x) uses valid behind = absurd (cc behind)
+traced_few half _ uses valid behind = absurd (cc behind)
 
 -- a verdict on one of the two kinds is one on the document
 pub on_traced : (d : PlainDocument) (p : Pattern) (uses : List Use)

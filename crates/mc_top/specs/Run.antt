@@ -17,7 +17,7 @@ use Rattle.mc_run.specs.Reports.{IsLeastPhase, outcomes_of}
 use Rattle.mc_run_text.specs.Reduced.{reduced}
 use Rattle.mc_run_text.specs.Runs.{circuit_run, all_runs, branch_entries, branch_phase, is_unlike}
 use Rattle.mc_document.specs.Documents.{PlainDocument, circuit_in}
-use Rattle.mc_document.specs.Kinds.{every_source}
+use Rattle.mc_document.specs.Documents.{every_source}
 use Rattle.mc_top.specs.Due.{Due, due_unless, holding, run_limit}
 use Rattle.mc_top.specs.Source.{run_source_in}
 use Rattle.mc_top.specs.Command.{Command}
