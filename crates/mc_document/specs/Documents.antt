@@ -4,9 +4,10 @@ use Rattle.std.specs.Prelude.{Option, None, Some, is_some, option_map, ⊤}
 use Rattle.mc_lex.specs.declared.kind.Kind.{Kind}
 use Rattle.mc_lex.specs.declared.kind.Kind.TheVariants as kind
 use Rattle.mc_model.specs.Derivation.{Use}
-use Rattle.mc_model.specs.Graph.{OpenGraph}
+use Rattle.mc_model.specs.Graph.{OpenGraph, zero_pattern}
 use Rattle.mc_model.specs.Pattern.{Circuit, Pattern}
 use Rattle.mc_model.specs.Shift.{ChangeRow, IsChangeOf}
+use Rattle.mc_model.specs.Translation.{translation}
 use Rattle.mc_text.specs.declared.fault.Fault.{Fault}
 use Rattle.mc_text.specs.declared.fault.Fault.TheVariants.{NoKind, KindNotTaken}
 use Rattle.mc_text.specs.declared.form.Form.{Form}
@@ -26,6 +27,7 @@ use Rattle.mc_cert_text.specs.Canonical.{cert_text}
 use Rattle.mc_cert_text.specs.Certs.{PlainCert, plain_cert, IsCertOf}
 use Rattle.mc_gates.specs.Gates.{GateList}
 use Rattle.mc_gates.specs.Lists.{IsGateList}
+use Rattle.mc_gates.specs.Lowering.{lowered}
 use Rattle.mc_gates_text.specs.Canonical.{gates_text}
 use Rattle.mc_document.specs.declared.document.Document.{Document}
 use Rattle.mc_document.specs.declared.document.Document.TheVariants as code
@@ -159,6 +161,17 @@ two_in _ = None
 abbrev pub gates_in : PlainDocument → Option GateList
 gates_in (gates g) = Some g
 gates_in _ = None
+
+-- the pattern that a document stands for: a circuit counts as its translation, and a graph as its
+-- pattern without a flow; no command that asks for it takes two patterns, which count as the first
+-- here, or gates, which count as the circuit that they are lowered to
+abbrev pub source_pattern : ℕ → PlainDocument → Pattern
+source_pattern half (circuit c) = translation half c
+source_pattern half (pattern p change) = p
+source_pattern half (traced p uses) = p
+source_pattern half (two p q line column) = p
+source_pattern half (graph g cert) = zero_pattern g
+source_pattern half (gates g) = translation half (lowered g)
 
 -- the change of a pattern's outcomes, where there is one, has a row for each measured qubit, in
 -- measuring order, and names in it only qubits that were measured before, in order

@@ -17,9 +17,9 @@ use Rattle.mc_extract.specs.Answers.{HasNoCausalFlow}
 use Rattle.mc_extract.specs.Extracted.{gate_count, HasZeroBranch}
 use Rattle.mc_extract.specs.Laws.{IsExtractedFrom}
 use Rattle.mc_cert_text.specs.Certs.{nocausal, IsCertOf}
-use Rattle.mc_document.specs.Documents.{PlainDocument, document_text, every_source, graph}
+use Rattle.mc_document.specs.Documents.{PlainDocument, document_text, every_source, graph, source_pattern}
 use Rattle.mc_top.specs.Due.{Due, IsDueUnless, answer, holding}
-use Rattle.mc_top.specs.GraphSource.{source_graph, source_pattern, IsDueFromGraph}
+use Rattle.mc_top.specs.GraphSource.{source_graph, IsDueFromGraph}
 use Rattle.mc_top.specs.Command.{Command}
 
 -- an extracted circuit has at most 32,768 gates
