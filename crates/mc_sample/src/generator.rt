@@ -114,11 +114,11 @@ fn push_gates(builder: &mut CircuitBuilder<4>, x: u32) -> Result<(), Memory>
     push(builder, cz)
 }
 
-fn finish(alloc: Global, builder: CircuitBuilder<4>) -> Result<Circuit<4>, Memory>
+fn finish(builder: CircuitBuilder<4>) -> Result<Circuit<4>, Memory>
     ensures { IfOk result (λ circuit. circuit ≡
         record builder { outputs = numbers_from 0 8 }) }
 {
-    match builder.finish(alloc, &[0, 1, 2, 3, 4, 5, 6, 7]) {
+    match builder.finish(&[0, 1, 2, 3, 4, 5, 6, 7]) {
         Ok(circuit) => Ok(circuit),
         Err(_) => Err(Memory),
     }
@@ -136,5 +136,5 @@ pub fn sample(alloc: Global, n: u32) -> Result<Circuit<4>, Memory>
         x = next_number(x);
         push_gates(&mut builder, x)?;
     }
-    finish(alloc, builder)
+    finish(builder)
 }

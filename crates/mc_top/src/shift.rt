@@ -49,6 +49,6 @@ fn print_shifted<const H: usize>(alloc: Global, source: &Pattern<H>) -> Result<V
     has_one_shifted_form();
     let standard = standardise(alloc, source)?;
     let (shifted, change) = shift(alloc, &standard)?;
-    let pattern = shifted.as_pattern(alloc)?;
+    let pattern = shifted.as_pattern()?;
     print_with_change(alloc, &pattern, &change)
 }

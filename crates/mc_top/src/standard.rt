@@ -46,6 +46,6 @@ fn print_standard<const H: usize>(alloc: Global, source: &Pattern<H>) -> Result<
     ensures meaning { OnOk result (IsAlikeStandardised H source.now) }
 {
     let standard = standardise(alloc, source)?;
-    let pattern = standard.as_pattern(alloc)?;
+    let pattern = standard.as_pattern()?;
     print_pattern(alloc, &pattern)
 }
