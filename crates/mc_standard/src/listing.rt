@@ -122,7 +122,6 @@ impl<const H: usize> Standard<H> {
     /// The pattern with other measurements and corrections, with which it is its own standard form too.
     pub fn with_signals(
         &self,
-        alloc: Global,
         measures: Vec<Measure<H>>,
         fixes: Vec<Fix>,
     ) -> Result<Standard<H>, Memory>
@@ -132,6 +131,7 @@ impl<const H: usize> Standard<H> {
             with_signals self.now (map plain_measure measures.entry.items)
             (map plain_fix fixes.items)) }
     {
+        let alloc = *self.outs.allocator();
         Ok(Standard {
             names: self.names.copy()?,
             inputs: self.inputs,
