@@ -1,6 +1,6 @@
 -- The first line and the first token.
-use Rattle.std.proofs.Common.{◌≡◌, ℕ, suc, ◌+◌, ◌-◌, ◌<◌, ◌≤◌, List, [], ◌∷◌, Bool, true, false, not}
-use Rattle.std.proofs.Common.{length, take, drop, Option, Some, None, refl, sym, ap, ◌∙◌, arith, ◌||◌}
+use Rattle.std.proofs.Common.{◌≡◌, ℕ, zero, suc, ◌+◌, ◌-◌, ◌<◌, ◌≤◌, List, [], ◌∷◌, Bool, true, false}
+use Rattle.std.proofs.Common.{not, length, take, drop, Option, Some, None, refl, sym, ap, ◌∙◌, arith, ◌||◌}
 use Rattle.std.proofs.Common.{slice_index_or, IfNone, IfSome}
 use Rattle.std.specs.List.{prefix_len}
 use Rattle.std.proofs.lemmas.Bool.Decides.{nat_tests}
@@ -228,6 +228,11 @@ tokens_none line text none =
 pub behind_blanks : (text : List ℕ)
     → behind_feed (drop (prefix_len is_blank text) text) ≡ behind_feed text
 behind_blanks text = (seen is_blank blank_goes_on text).behind
+
+-- what is left behind a line is shorter than all of it, also where only blanks stood there
+pub shorter_by : (m n k : ℕ) → (0 < n → m < n) → m ≤ n → n ≤ k → 0 < k → m < k
+shorter_by m zero k less most le some = omega arith
+shorter_by m (suc n) k less most le some = let lt = less (omega arith) in omega arith
 
 behind_step : (b : ℕ) (bs : List ℕ) (t : Bool) → is_feed b ≡ t
     → behind_feed bs ≡ drop (feed_len bs + 1) bs

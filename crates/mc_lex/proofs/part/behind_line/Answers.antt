@@ -1,3 +1,4 @@
+use Rattle.std.proofs.Common.{arith}
 use Rattle.mc_lex.proofs.Firsts.{behind_last, behind_first}
 use Rattle.mc_lex.proofs.part.behind_line.Goals as goal
 
