@@ -150,15 +150,6 @@ word_first line column [] n e some le = absurd (omega arith)
 word_first line column (b ∷ bs) n e some le =
     word_by line column b bs (is_word_byte b) refl n e some le
 
-no_word_by : (b : ℕ) (bs : List ℕ) (t : Bool) → is_word_byte b ≡ t
-    → prefix_len is_word_byte (b ∷ bs) ≡ 0 → t ≡ false
-no_word_by b bs true w e = let e' = rw w at e in absurd (omega arith)
-no_word_by b bs false w e = refl
-
-pub no_word_first : (bytes : List ℕ) → prefix_len is_word_byte bytes ≡ 0 → starts_word bytes ≡ false
-no_word_first [] e = refl
-no_word_first (b ∷ bs) e = no_word_by b bs (is_word_byte b) refl e
-
 -- a byte in front that is not allowed
 pub record IsBadFirst (line column : ℕ) (bytes : List ℕ) : Type 0 where
   pub tokens_are : tokens line column (in_view bytes)
@@ -181,13 +172,7 @@ bad_first line column (b ∷ bs) some e n w =
       within = let l = ap length all in omega arith;
     }
 
-pub none_first : (line column : ℕ) (bytes : List ℕ) → 1 ≤ length bytes
-    → (is_feed (slice_index_or bytes 0 0) || is_hash (slice_index_or bytes 0 0)) ≡ true
-    → tokens line column (in_view bytes) ≡ []
-none_first line column [] some e = absurd (omega arith)
-none_first line column (b ∷ bs) some e = rw e refl
-
-abbrev pub HasToken : ℕ → ℕ → List ℕ → Type 0
+abbrev HasToken : ℕ → ℕ → List ℕ → Type 0
 HasToken line column bytes =
     (item : Item) × ((items : List Item) × (tokens line column bytes ≡ item ∷ items))
 

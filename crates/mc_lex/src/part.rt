@@ -1,6 +1,7 @@
 //! Lines, and the tokens of a line one by one.
 
-ghost use Rattle.std.specs.Prelude.{◌≡◌, ◌+◌, ◌^◌, ◌<◌, ◌≤◌, ◌||◌, [], length, IfSome, IfNone, false};
+ghost use Rattle.std.specs.Prelude.{◌≡◌, ◌+◌, ◌^◌, ◌<◌, ◌≤◌, ◌||◌, [], length};
+ghost use Rattle.std.specs.Prelude.{IfSome, IfNone, false};
 ghost use Rattle.mc_model.specs.Limits.{most_bytes};
 ghost use Rattle.mc_lex.specs.Bytes.{is_feed, is_hash};
 ghost use Rattle.mc_lex.specs.Lines.{lines_from, starts_word, end_of};
