@@ -4,8 +4,9 @@ use Rattle.std.proofs.Common.{◌∙◌, subst, arith}
 use Rattle.mc_model.specs.Ring.{ring}
 use Rattle.mc_model.specs.Amplitude.{branch_map, pattern_scale}
 use Rattle.mc_pattern.specs.Patterns.{measured_count}
+use Rattle.mc_cyclo.specs.Phase.{IsLeastPhase}
 use Rattle.mc_run.specs.Tables.{TableValue, IsTableOf}
-use Rattle.mc_run.specs.Reports.{outcomes_of, IsLeastPhase}
+use Rattle.mc_run.specs.Reports.{outcomes_of}
 use Rattle.mc_run.proofs.Vectors.{length-more}
 use Rattle.mc_run.proofs.MeasuringOrder.{order_listed, order_long, each_next}
 use Rattle.mc_run.proofs.report.all_branches.Goals as goal
