@@ -128,7 +128,7 @@ module _ (g : OpenGraph) (f : FlowRows) (earliest : IsEarliest g f) where
       apart = rows_apart by_k by_number sets.rows sets.listed.rises;
     }
 
-    pub rows_chosen : IsChosenBoundOf g f bound_rows
+    rows_chosen : IsChosenBoundOf g f bound_rows
     rows_chosen =
         chosen_rows g f bound_rows (f.depth + 1) earliest refl own_rows layers.listed
         (omega arith) sets.listed
