@@ -1,5 +1,5 @@
 -- A graph with a certificate, as a document has it.
-use Rattle.std.proofs.Common.{◌≡◌, ℕ, Some, None, subst}
+use Rattle.std.proofs.Common.{◌≡◌, ℕ, Some, None, refl, subst}
 use Rattle.mc_model.specs.Graph.{OpenGraph}
 use Rattle.mc_cert_text.specs.Certs.{PlainCert, IsCertOf}
 use Rattle.mc_document.specs.Documents.{IsDocument, PlainDocument, cert_in, graph, graph_in}
