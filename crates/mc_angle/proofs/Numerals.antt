@@ -1,11 +1,10 @@
 -- Numbers in decimal are read as they are.
 use Rattle.std.proofs.Common.{◌≡◌, ℕ, ◌+◌, ◌-◌, ◌*◌, ◌/◌, ◌%◌, ◌^◌, ◌<◌, ◌≤◌, List}
 use Rattle.std.proofs.Common.{[], ◌∷◌, ◌++◌}
-use Rattle.std.proofs.Common.{Bool, true, false, not, ◌&&◌, ◌==◌, nat_le, ℤ, pos, length, refl, sym}
-use Rattle.std.proofs.Common.{ap, ◌∙◌, arith, lit<, IsTrue, mod-eq_of_lt}
+use Rattle.std.proofs.Common.{Bool, true, false, ◌&&◌, ◌==◌, nat_le, pos, length, refl}
+use Rattle.std.proofs.Common.{◌∙◌, arith, IsTrue, mod-eq_of_lt}
 use Rattle.std.specs.Fmt.{decimal}
 use Rattle.std.specs.List.{list_all}
-use Rattle.std.proofs.lemmas.Bool.{ne_eqb}
 use Rattle.std.proofs.lemmas.Bool.Decides.{nat_tests}
 use Rattle.std.proofs.lemmas.Fmt.{decimal_by_steps, decimal_nonempty, length-decimal-le}
 use Rattle.std.proofs.lemmas.List.Folds.{list_all-append}

@@ -1,8 +1,9 @@
 -- Rows of a bound as they are kept: entries by key.
-use Rattle.std.proofs.Common.{◌≡◌, ℕ, Bool, true, false, cond, ◌&&◌, ◌||◌, List, [], ◌∷◌, ◌++◌, map, refl}
+use Rattle.std.proofs.Common.{◌≡◌, ℕ, Bool, true, false, cond, ◌&&◌, ◌||◌, List, [], ◌∷◌, ◌++◌}
+use Rattle.std.proofs.Common.{map, refl}
 use Rattle.std.proofs.Common.{sym, ap, ◌∙◌, true≢false, if◌then◌else◌, subst}
 use Rattle.indexmap.specs.IndexMap.{insert_entry}
-use Rattle.std.specs.Prelude.{Option, None, Some, is_some, nat_eq, option_map, unwrap_or, find}
+use Rattle.std.specs.Prelude.{Some, is_some, nat_eq, option_map, unwrap_or, find}
 use Rattle.std.specs.Map.{lookup}
 use Rattle.std.specs.List.{list_any}
 use Rattle.mc_cert.specs.BoundRecords.{LayerRow, BoundRow}

@@ -1,11 +1,10 @@
 -- Tests of the elements of a list and of the numbers below a bound, as loops make them.
 use Rattle.std.proofs.Common.{◌≡◌, ◌≢◌, ℕ, zero, suc, ◌+◌, ◌<◌, ◌≤◌, Bool, true, false, ◌||◌}
 use Rattle.std.proofs.Common.{not}
-use Rattle.std.proofs.Common.{List, ◌∷◌, length, drop, refl, sym, ◌∙◌, ap, ap₂, arith}
+use Rattle.std.proofs.Common.{List, ◌∷◌, drop, refl, sym, ◌∙◌, ap, ap₂, arith}
 use Rattle.std.specs.Prelude.{slice_get, Some}
 use Rattle.std.specs.List.{list_any}
 use Rattle.std.proofs.Math.Seq.{drop-cons}
-use Rattle.std.proofs.lemmas.List.{drop_all}
 use Rattle.std.proofs.lemmas.Option.{slice_get_within, get_or_from_slice_get}
 use Rattle.std.proofs.lemmas.Bool.{true≢false}
 use Rattle.mc_model.specs.Bits.{Bits}
@@ -41,10 +40,6 @@ pub any_step : {A : Type 0} (p : A → Bool) (xs : List A) (i : ℕ) (x : A) →
 any_step p xs i x e t kept =
     sym (sym kept ∙ ap (list_any p) (drop_at xs i x e)
     ∙ ap (λ (b : Bool). b || list_any p (drop (i + 1) xs)) t)
-
-pub any_end : {A : Type 0} (p : A → Bool) (xs : List A) (i : ℕ) → length xs ≤ i →
-    list_any p (drop i xs) ≡ list_any p xs → false ≡ list_any p xs
-any_end p xs i l kept = ap (list_any p) (sym (drop_all i xs l)) ∙ kept
 
 -- ---- numbers
 

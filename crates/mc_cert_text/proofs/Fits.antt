@@ -17,8 +17,7 @@ use Rattle.mc_rows.specs.declared.row.Row.{Row}
 use Rattle.mc_rows.specs.Rows.{rows_in}
 use Rattle.mc_rows.specs.Kept.{has_name}
 use Rattle.mc_lex.specs.declared.kind.Kind.{Kind}
-use Rattle.mc_lex.specs.declared.kind.Kind.TheVariants.{Circuit, Pattern, Graph, Change, Flow}
-use Rattle.mc_lex.specs.declared.kind.Kind.TheVariants.{NoFlow, NoCausal, Trace, Least, Gates}
+use Rattle.mc_lex.specs.declared.kind.Kind.TheVariants.{Flow, NoFlow, NoCausal, Least}
 use Rattle.mc_graph.specs.RowLists.{AreRowsOf}
 use Rattle.mc_cert.specs.BoundRecords.{LayerRow, BoundRow}
 use Rattle.mc_cert.specs.Bounds.{AreOwn}
@@ -199,12 +198,7 @@ fits_by few g small Flow rows k all apart = flow_of_rows g rows all apart
 fits_by few g small NoFlow rows k all apart = refuter_of_rows g rows all apart
 fits_by few g small NoCausal rows k all apart = stuck_of_rows g rows all
 fits_by few g small Least rows k all apart = least_of_rows few g small rows all apart
-fits_by few g small Circuit rows k all apart = absurd k
-fits_by few g small Pattern rows k all apart = absurd k
-fits_by few g small Graph rows k all apart = absurd k
-fits_by few g small Change rows k all apart = absurd k
-fits_by few g small Trace rows k all apart = absurd k
-fits_by few g small Gates rows k all apart = absurd k
+fits_by few g small _ rows k all apart = absurd k
 
 -- the certificate that lines without a fault spell
 pub cert_fits : ShortBoundsAreFew → (g : OpenGraph) → size g ≤ 256 → (kind : Kind)

@@ -24,8 +24,7 @@ use Rattle.mc_rows.specs.Judge.{Kind as RowKind, judge_by, lacks_by, row_rules}
 use Rattle.mc_graph.specs.RowLists.{has_row}
 use Rattle.mc_graph.specs.Refuters.{refuted_in}
 use Rattle.mc_lex.specs.declared.kind.Kind.{Kind}
-use Rattle.mc_lex.specs.declared.kind.Kind.TheVariants.{Circuit, Pattern, Graph, Change, Flow}
-use Rattle.mc_lex.specs.declared.kind.Kind.TheVariants.{NoFlow, NoCausal, Trace, Least, Gates}
+use Rattle.mc_lex.specs.declared.kind.Kind.TheVariants.{Flow, NoFlow, NoCausal, Least}
 use Rattle.mc_cert_text.specs.Value.{flow_in, refuter_in, least_in}
 use Rattle.mc_cert_text.specs.Kinds.{IsCertKind, flow_kind, refuter_kind, stuck_kind, least_kind}
 use Rattle.mc_cert_text.specs.Kinds.{has_bound_row, cert_rules}
@@ -184,9 +183,4 @@ cert_no_limit Least names lines last which found k =
     rows_no_limit least_kind names (λ rows h. none_fault) (λ rows h number q.
     twice_fault (has_bound_row (least_in rows) h number q))
     (λ rows q. none_fault) lines last which found
-cert_no_limit Circuit names lines last which found k = absurd k
-cert_no_limit Pattern names lines last which found k = absurd k
-cert_no_limit Graph names lines last which found k = absurd k
-cert_no_limit Change names lines last which found k = absurd k
-cert_no_limit Trace names lines last which found k = absurd k
-cert_no_limit Gates names lines last which found k = absurd k
+cert_no_limit _ names lines last which found k = absurd k

@@ -24,7 +24,7 @@ fn path(rt: &impl Abort, alloc: Global) -> Result<OpenGraph<4>, Fail> {
     assert_eq!(rt; builder.edge(1, 2), Ok(()));
     assert_eq!(rt; builder.angle(0, Angle::of(1)), Ok(()));
     assert_eq!(rt; builder.angle(1, Angle::of(2)), Ok(()));
-    Ok(builder.finish(alloc, &[2]).ok().expect(rt, "a graph"))
+    Ok(builder.finish(&[2]).ok().expect(rt, "a graph"))
 }
 
 fn verdict(

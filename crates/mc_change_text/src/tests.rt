@@ -24,7 +24,7 @@ fn with_two(rt: &impl Abort, alloc: Global) -> Result<Pattern<4>, Fail> {
         };
         assert_eq!(rt; builder.push(measure), Ok(()));
     }
-    match builder.finish(alloc, &[2]) {
+    match builder.finish(&[2]) {
         Ok(pattern) => Ok(pattern),
         Err((_, end)) => Err(end.into()),
     }

@@ -1,10 +1,11 @@
 -- A property of sets that can be decided has a least set, or none.
-use Rattle.std.proofs.Common.{◌≡◌, ◌≢◌, ◌⊎◌, ℕ, zero, suc, ◌<◌, ◌≤◌, Bool, true, false, refl, sym}
-use Rattle.std.proofs.Common.{◌∙◌, ap, arith, inl, inr, subst}
-use Rattle.std.proofs.lemmas.Bool.{eq-eqb, ne_eqb, cases_eq}
-use Rattle.mc_model.specs.Bits.{Bits, replaced}
+use Rattle.std.proofs.Common.{◌≡◌, ◌⊎◌, ℕ, zero, suc, ◌<◌, ◌≤◌, Bool, true, false, ◌&&◌, nat_lt}
+use Rattle.std.proofs.Common.{refl, sym, ◌∙◌, ap, arith, inl, inr, subst}
+use Rattle.std.proofs.lemmas.Bool.{lt-ltb, le-ltb}
+use Rattle.mc_model.specs.Bits.{Bits}
 use Rattle.mc_model.specs.Choice.{SameBelow, IsLess}
 use Rattle.mc_elim.specs.Systems.{IsLeast}
+use Rattle.mc_least.proofs.LeastSets.{least_or_none as least_below}
 
 -- it holds or it doesn't
 abbrev pub Decided : Type 0 → Type 0
@@ -39,123 +40,45 @@ each_decided (suc n) P one = with_last (each_decided n P one) (one n)
       | inr e ↦ subst P (sym e) here
     ])
 
-module _ (m : ℕ) (P : Bits → Type 0) (decide : (s : Bits) → Decided (P s))
-    (alike : (s t : Bits) → SameBelow m s t → P s → P t) where
-  -- from `k` on
-  abbrev SameFrom : ℕ → Bits → Bits → Type 0
-  SameFrom k s t = (j : ℕ) → k ≤ j → j < m → s j ≡ t j
+-- a least set stays least with the same numbers below the bound
+pub least_too : (n : ℕ) (P : Bits → Type 0) (s t : Bits) → SameBelow n s t → (P s → P t) →
+    IsLeast n P s → IsLeast n P t
+least_too n P s t same has h = record { has = has h.has; least = λ u p. by u (h.least u p) }
+  where
+    by : (u : Bits) → SameBelow n s u ⊎ IsLess (λ d j. d < j) n s u →
+        SameBelow n t u ⊎ IsLess (λ d j. d < j) n t u
+    by u (inl all) = inl (λ k l. sym (same k l) ∙ all k l)
+    by u (inr less) = inr (record {
+      last = less.last;
+      vertex = less.vertex;
+      lacks = sym (same less.last less.vertex) ∙ less.lacks;
+      holds = less.holds;
+      same_after = λ k l after. sym (same k l) ∙ less.same_after k l after;
+    })
 
-  -- the least of the sets that are as `base` from `k` on
-  record IsLeastFrom (k : ℕ) (base s : Bits) : Type 0 where
-    has : P s
-    same : SameFrom k s base
-    past : (j : ℕ) → m ≤ j → s j ≡ base j
-    least : (t : Bits) → SameFrom k t base → P t → SameBelow m s t ⊎ IsLess (λ d j. d < j) m s t
+-- the numbers of a set below a bound
+abbrev cut_at : ℕ → Bits → Bits
+cut_at m s = λ k. nat_lt k m && s k
 
-  abbrev Found : ℕ → Bits → Type 0
-  Found k base = ((s : Bits) × IsLeastFrom k base s) ⊎ ((t : Bits) → SameFrom k t base → P t → ⊥)
-
-  here : (base : Bits) (k : ℕ) (b : Bool) → replaced base k b k ≡ b
-  here base k b = rw (eq-eqb k k refl) refl
-
-  other : (base : Bits) (k j : ℕ) (b : Bool) → j ≢ k → replaced base k b j ≡ base j
-  other base k j b ne = rw (ne_eqb j k ne) refl
-
-  -- with one more number settled
-  narrowed : (k : ℕ) (base t : Bits) (b : Bool) → t k ≡ b → SameFrom (suc k) t base →
-      SameFrom k t (replaced base k b)
-  narrowed k base t b e same j le lt = elim (cases_eq j k) [
-    | inl at ↦ ap t at ∙ e ∙ sym (ap (replaced base k b) at ∙ here base k b)
-    | inr ne ↦ same j (omega arith) lt ∙ sym (other base k j b ne)
-  ]
-
-  widened : (k : ℕ) (base s : Bits) (b : Bool) → SameFrom k s (replaced base k b) →
-      SameFrom (suc k) s base
-  widened k base s b same j le lt = same j (omega arith) lt ∙ other base k j b (omega arith)
-
-  past_widened : (k : ℕ) (base s : Bits) (b : Bool) → k < m →
-      ((j : ℕ) → m ≤ j → s j ≡ replaced base k b j) → (j : ℕ) → m ≤ j → s j ≡ base j
-  past_widened k base s b lt past j le = past j le ∙ other base k j b (omega arith)
-
-  abbrev Compared : Bits → Bits → Type 0
-  Compared s t = SameBelow m s t ⊎ IsLess (λ d j. d < j) m s t
-
-  -- one that lacks `k`
-  lacking : (k : ℕ) → k < m → (base s : Bits) → IsLeastFrom k (replaced base k false) s →
-      IsLeastFrom (suc k) base s
-  lacking k km base s h = record {
-    has = h.has;
-    same = widened k base s false h.same;
-    past = past_widened k base s false km h.past;
-    least = λ t same p. which t same p (t k) refl;
-  }
-    where
-      lacks : s k ≡ false
-      lacks = h.same k (omega arith) km ∙ here base k false
-
-      which : (t : Bits) → SameFrom (suc k) t base → P t → (c : Bool) → t k ≡ c → Compared s t
-      which t same p false f = h.least t (narrowed k base t false f same) p
-      which t same p true f = inr (record {
-        last = k;
-        vertex = km;
-        lacks = lacks;
-        holds = f;
-        same_after = λ j jm after.
-            widened k base s false h.same j (omega arith) jm ∙ sym (same j (omega arith) jm);
-      })
-
-  -- one that has `k`, where none lacks it
-  having : (k : ℕ) → k < m → (base s : Bits) → IsLeastFrom k (replaced base k true) s →
-      ((t : Bits) → SameFrom k t (replaced base k false) → P t → ⊥) → IsLeastFrom (suc k) base s
-  having k km base s h none = record {
-    has = h.has;
-    same = widened k base s true h.same;
-    past = past_widened k base s true km h.past;
-    least = λ t same p. which t same p (t k) refl;
-  }
-    where
-      which : (t : Bits) → SameFrom (suc k) t base → P t → (c : Bool) → t k ≡ c → Compared s t
-      which t same p false f = absurd (none t (narrowed k base t false f same) p)
-      which t same p true f = h.least t (narrowed k base t true f same) p
-
-  found : (k : ℕ) → k ≤ m → (base : Bits) → Found k base
-  found zero le base = elim (decide base) [
-    | inl p ↦ inl (
-      base,
-      record {
-        has = p;
-        same = λ j k lt. refl;
-        past = λ j k. refl;
-        least = λ t same q. inl (λ j lt. sym (same j (omega arith) lt));
-      },
-    )
-    | inr not_so ↦ inr (λ t same q. not_so (alike t base (λ j lt. same j (omega arith) lt) q))
-  ]
-  found (suc k) le base = elim (found k (omega arith) (replaced base k false)) [
-    | inl some ↦ inl (some.0, lacking k (omega arith) base some.0 some.1)
-    | inr none ↦ elim (found k (omega arith) (replaced base k true)) [
-      | inl some ↦ inl (some.0, having k (omega arith) base some.0 some.1 none)
-      | inr neither ↦ inr (λ t same p. which t same p none neither (t k) refl)
+-- the least set has no number from `m` on
+pub least_or_none : (m : ℕ) (P : Bits → Type 0) → ((s : Bits) → Decided (P s)) →
+    ((s t : Bits) → SameBelow m s t → P s → P t) →
+    ((s : Bits) × IsLeast m P s × ((j : ℕ) → m ≤ j → s j ≡ false)) ⊎ ((t : Bits) → P t → ⊥)
+least_or_none m P decide alike =
+    elim (least_below m P (record { decided = decide; same = alike })) [
+      | inl some ↦
+          let same : SameBelow m some.0 (cut_at m some.0) = as_cut some.0 in
+          inl (
+            cut_at m some.0,
+            least_too m P some.0 (cut_at m some.0) same (alike some.0 (cut_at m some.0) same)
+                some.1,
+            none_from some.0,
+          )
+      | inr none ↦ inr none
     ]
-  ]
-    where
-      which : (t : Bits) → SameFrom (suc k) t base → P t →
-          ((t : Bits) → SameFrom k t (replaced base k false) → P t → ⊥) →
-          ((t : Bits) → SameFrom k t (replaced base k true) → P t → ⊥) → (c : Bool) → t k ≡ c → ⊥
-      which t same p none neither false f = none t (narrowed k base t false f same) p
-      which t same p none neither true f = neither t (narrowed k base t true f same) p
+  where
+    as_cut : (s : Bits) → SameBelow m s (cut_at m s)
+    as_cut s k l = sym (ap (λ (b : Bool). b && s k) (lt-ltb k m l))
 
-  -- the least set has no number from `m` on
-  pub least_or_none :
-      ((s : Bits) × IsLeast m P s × ((j : ℕ) → m ≤ j → s j ≡ false)) ⊎ ((t : Bits) → P t → ⊥)
-  least_or_none = elim (found m (omega arith) (λ j. false)) [
-    | inl some ↦ inl (
-      some.0,
-      record {
-        has = some.1.has;
-        least = λ t p. some.1.least t (λ j le lt. absurd (omega arith)) p;
-      },
-      some.1.past,
-    )
-    | inr none ↦ inr (λ t p. none t (λ j le lt. absurd (omega arith)) p)
-  ]
+    none_from : (s : Bits) (j : ℕ) → m ≤ j → cut_at m s j ≡ false
+    none_from s j le = ap (λ (b : Bool). b && s j) (le-ltb j m le)

@@ -1,172 +1,67 @@
 -- Rows for layers and vertices of which it can be told whether they are due: all rows that are due
 -- can be listed in order, and then no two are for the same layer and vertex.
-use Rattle.std.proofs.Common.{◌≡◌, ◌⊎◌, ℕ, zero, suc, ◌+◌, ◌<◌, ◌≤◌, Bool, true, false, ◌&&◌}
-use Rattle.std.proofs.Common.{List, [], ◌∷◌, map, refl, sym, ap, ap₂, subst, ◌∙◌, arith, inl, inr}
+use Rattle.std.proofs.Common.{◌≡◌, ℕ, zero, suc, ◌+◌, ◌<◌, ◌≤◌, false, ◌&&◌, List, []}
+use Rattle.std.proofs.Common.{◌∷◌, ◌++◌, map, ap, subst, arith, inl, inr}
 use Rattle.std.specs.Prelude.{nat_eq, All}
-use Rattle.std.specs.List.{AllByRecursion, IsDistinct, list_any}
-use Rattle.std.proofs.lemmas.Bool.{cases_eq, ne_eqb, or_left, or_right}
+use Rattle.std.specs.List.{AllByRecursion, IsDistinct}
+use Rattle.std.proofs.lemmas.Bool.{ne_eqb}
 use Rattle.std.proofs.lemmas.Bool.Decides.{nat_tests}
-use Rattle.std.proofs.lemmas.List.Elements.{All-nil, All-cons, All-head, All-tail, All-weaker}
+use Rattle.std.proofs.lemmas.List.Elements.{All-head, All-tail}
 use Rattle.mc_graph.specs.RowLists.{HaveOwnVertices}
-use Rattle.mc_least.specs.Listed.{ComesBefore, Rises}
+use Rattle.mc_least.specs.Listed.{ComesBefore, Rises, Lists}
+use Rattle.mc_least.proofs.ListedRows.{none_listed, row_skipped, row_pushed, layer_ended}
 use Rattle.mc_chosen.proofs.LeastSets.{Decided}
 
--- the layer `j` and the vertex `v` are the layer `k` and the vertex `x`, or stand behind them
-abbrev IsFrom : ℕ → ℕ → ℕ → ℕ → Type 0
-IsFrom k x j v = (k < j) ⊎ ((k ≡ j) × (x ≤ v))
-
-module _ {A : Type 0} (level vertex : A → ℕ) (make : ℕ → ℕ → A) (at : ℕ → ℕ → A → Bool)
-    (IsDue : ℕ → ℕ → Type 0) where
-  -- a row that was made for a layer and a vertex that are due
-  pub record IsMade (r : A) : Type 0 where
-    pub layer : ℕ
-    pub number : ℕ
-    pub due : IsDue layer number
-    pub is : r ≡ make layer number
-
-  -- the rows that are due, in order
-  pub record AreListed : Type 0 where
+module _ {A : Type 0} (level vertex : A → ℕ) (IsDue : ℕ → ℕ → Type 0) (P : A → Type 0) where
+  -- the rows that are due before the layer `k` and the vertex `x`, in order
+  pub record AreListed (k x : ℕ) : Type 0 where
     pub rows : List A
-    pub each : All IsMade rows
-    pub complete : (j v : ℕ) → IsDue j v → list_any (at j v) rows ≡ true
-    pub rises : Rises level vertex rows
+    pub listed : Lists level vertex IsDue P k x rows
 
-  -- those from the layer `k` and the vertex `x` on
-  record AreFrom (k x : ℕ) : Type 0 where
-    rows : List A
-    each : All IsMade rows
-    behind : All (λ r. IsFrom k x (level r) (vertex r)) rows
-    complete : (j v : ℕ) → IsDue j v → IsFrom k x j v → list_any (at j v) rows ≡ true
-    rises : Rises level vertex rows
-
-  module _ (at_level : (j v : ℕ) → level (make j v) ≡ j)
+  module _ (make : ℕ → ℕ → A) (at_level : (j v : ℕ) → level (make j v) ≡ j)
       (at_vertex : (j v : ℕ) → vertex (make j v) ≡ v)
-      (at_own : (j v : ℕ) → at j v (make j v) ≡ true) (decided : (j v : ℕ) → Decided (IsDue j v))
-      (d n : ℕ) (within : (j v : ℕ) → IsDue j v → (1 ≤ j) × (j ≤ d) × (v < n)) where
-    none_left : AreFrom (d + 1) 0
-    none_left = record {
-      rows = [];
-      each = All-nil IsMade;
-      behind = All-nil (λ r. IsFrom (d + 1) 0 (level r) (vertex r));
-      complete = λ j v due from. absurd (none j v (within j v due).1 from);
-      rises = tt;
-    }
-      where
-        none : (j v : ℕ) → j ≤ d → IsFrom (d + 1) 0 j v → ⊥
-        none j v low (inl lt) = omega arith
-        none j v low (inr e) = let same = e.0 in omega arith
-
-    -- the end of the layer before
-    layer_before : (k : ℕ) → AreFrom (k + 1) 0 → AreFrom k n
-    layer_before k a = record {
-      rows = a.rows;
-      each = a.each;
-      behind = All-weaker (λ r. IsFrom (k + 1) 0 (level r) (vertex r))
-          (λ r. IsFrom k n (level r) (vertex r)) (λ r h. back (level r) (vertex r) h) a.rows
-          a.behind;
-      complete = λ j v due from. a.complete j v due (on j v (within j v due).2 from);
-      rises = a.rises;
-    }
-      where
-        back : (j v : ℕ) → IsFrom (k + 1) 0 j v → IsFrom k n j v
-        back j v (inl lt) = inl (omega arith)
-        back j v (inr e) = let same = e.0 in inl (omega arith)
-
-        on : (j v : ℕ) → v < n → IsFrom k n j v → IsFrom (k + 1) 0 j v
-        on j v low (inl lt) = elim (cases_eq (k + 1) j) [
-          | inl e ↦ inr (e, omega arith)
-          | inr ne ↦ inl (omega arith)
-        ]
-        on j v low (inr e) = let most = e.1 in absurd (omega arith)
-
-    -- the vertex before
-    vertex_before : (k x : ℕ) → AreFrom k (x + 1) → AreFrom k x
-    vertex_before k x a = elim (decided k x) [
+      (made : (j v : ℕ) → IsDue j v → P (make j v)) (decided : (j v : ℕ) → Decided (IsDue j v))
+      (n : ℕ) (within : (j v : ℕ) → IsDue j v → (1 ≤ j) × (v < n)) where
+    next_vertex : (k x : ℕ) → AreListed k x → AreListed k (x + 1)
+    next_vertex k x a = elim (decided k x) [
       | inl due ↦ record {
-        rows = make k x ∷ a.rows;
-        each = All-cons IsMade (make k x) a.rows
-            (record { layer = k; number = x; due = due; is = refl }) a.each;
-        behind = All-cons (λ r. IsFrom k x (level r) (vertex r)) (make k x) a.rows
-            (inr (sym (at_level k x), let e = at_vertex k x in omega arith)) behind;
-        complete = λ j v other from. elim (same_or_behind j v from) [
-          | inl same ↦
-              or_left (at j v (make k x)) (list_any (at j v) a.rows)
-              (ap₂ (λ (i w : ℕ). at i w (make k x)) (sym same.0) (sym same.1) ∙ at_own k x)
-          | inr later ↦
-              or_right (at j v (make k x)) (list_any (at j v) a.rows)
-              (a.complete j v other later)
-        ];
-        rises = (
-          All-weaker (λ r. IsFrom k (x + 1) (level r) (vertex r))
-              (λ r. ComesBefore (level (make k x)) (vertex (make k x)) (level r) (vertex r))
-              (λ r h. before (level r) (vertex r) h) a.rows a.behind,
-          a.rises,
-        );
+        rows = a.rows ++ make k x ∷ [];
+        listed = row_pushed level vertex IsDue P k x a.rows (make k x) a.listed (made k x due)
+            (at_level k x) (at_vertex k x);
       }
       | inr not_due ↦ record {
         rows = a.rows;
-        each = a.each;
-        behind = behind;
-        complete = λ j v other from. elim (same_or_behind j v from) [
-          | inl same ↦ absurd (not_due (subst (λ (w : ℕ). IsDue k w) (sym same.1)
-              (subst (λ (i : ℕ). IsDue i v) (sym same.0) other)))
-          | inr later ↦ a.complete j v other later
-        ];
-        rises = a.rises;
+        listed = row_skipped level vertex IsDue P k x a.rows a.listed not_due;
       }
     ]
-      where
-        narrow : (j v : ℕ) → IsFrom k (x + 1) j v → IsFrom k x j v
-        narrow j v (inl lt) = inl lt
-        narrow j v (inr e) = let most = e.1 in inr (e.0, omega arith)
 
-        behind : All (λ r. IsFrom k x (level r) (vertex r)) a.rows
-        behind = All-weaker (λ r. IsFrom k (x + 1) (level r) (vertex r))
-            (λ r. IsFrom k x (level r) (vertex r)) (λ r h. narrow (level r) (vertex r) h) a.rows
-            a.behind
+    vertices_to : (k x : ℕ) → AreListed k 0 → AreListed k x
+    vertices_to k zero a = a
+    vertices_to k (suc x) a =
+        let next : x + 1 ≡ suc x = omega arith in
+        subst (AreListed k) next (next_vertex k x (vertices_to k x a))
 
-        same_or_behind : (j v : ℕ) → IsFrom k x j v →
-            ((k ≡ j) × (x ≡ v)) ⊎ IsFrom k (x + 1) j v
-        same_or_behind j v (inl lt) = inr (inl lt)
-        same_or_behind j v (inr e) = elim (cases_eq x v) [
-          | inl same ↦ inl (e.0, same)
-          | inr ne ↦ let most = e.1 in inr (inr (e.0, omega arith))
-        ]
-
-        before : (j v : ℕ) → IsFrom k (x + 1) j v →
-            ComesBefore (level (make k x)) (vertex (make k x)) j v
-        before j v (inl lt) = let e = at_level k x in inl (omega arith)
-        before j v (inr e) =
-            let most = e.1 in
-            let own = at_vertex k x in inr (at_level k x ∙ e.0, omega arith)
-
-    whole_layer : (k x : ℕ) → AreFrom k x → AreFrom k 0
-    whole_layer k zero a = a
-    whole_layer k (suc x) a =
-        let next : suc x ≡ x + 1 = omega arith in
-        whole_layer k x (vertex_before k x (subst (AreFrom k) next a))
-
-    layers_from : (k i : ℕ) → k + i ≡ d + 1 → AreFrom k 0
-    layers_from k zero e =
-        let last : d + 1 ≡ k = omega arith in subst (λ (j : ℕ). AreFrom j 0) last none_left
-    layers_from k (suc i) e =
-        whole_layer k n (layer_before k (layers_from (k + 1) i (omega arith)))
-
-    pub all_listed : AreListed
-    all_listed =
-        let a = layers_from 1 d (omega arith) in
+    next_layer : (k : ℕ) → AreListed k 0 → AreListed (k + 1) 0
+    next_layer k a =
+        let whole : AreListed k n = vertices_to k n a in
         record {
-          rows = a.rows;
-          each = a.each;
-          complete = λ j v due. a.complete j v due (from_one j v (within j v due).0);
-          rises = a.rises;
+          rows = whole.rows;
+          listed = layer_ended level vertex IsDue P n k whole.rows
+              (λ j v due. (within j v due).1) whole.listed;
         }
-      where
-        from_one : (j v : ℕ) → 1 ≤ j → IsFrom 1 0 j v
-        from_one j v some = elim (cases_eq 1 j) [
-          | inl e ↦ inr (e, omega arith)
-          | inr ne ↦ inl (omega arith)
-        ]
+
+    -- up to the layer `k`
+    pub all_listed : (k : ℕ) → AreListed (k + 1) 0
+    all_listed zero =
+        let first : 1 ≡ zero + 1 = omega arith in
+        subst (λ (k : ℕ). AreListed k 0) first
+        (record {
+          rows = [];
+          listed = none_listed level vertex IsDue P (λ j v due. (within j v due).0);
+        })
+    all_listed (suc k) =
+        let next : k + 1 + 1 ≡ suc k + 1 = omega arith in
+        subst (λ (j : ℕ). AreListed j 0) next (next_layer (k + 1) (all_listed k))
 
 -- ---- rows in order
 

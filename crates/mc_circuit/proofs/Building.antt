@@ -1,29 +1,15 @@
 -- What builders of circuits keep.
 use Rattle.std.proofs.Common.{◌≡◌, ℕ, ◌≤◌, ◌<◌, ◌↔◌, Bool, true, false, nat_lt, nat_eq, List, []}
 use Rattle.std.proofs.Common.{◌∷◌, ◌++◌, length, take, replicate, slice_index_or, None, sym, ◌∙◌}
-use Rattle.std.proofs.Common.{subst, refl, arith, length-append}
+use Rattle.std.proofs.Common.{refl, arith, length-append}
 use Rattle.std.proofs.lemmas.Bool.{ltb-true, eq-eqb, true≢false}
 use Rattle.std.proofs.lemmas.List.{length-take-le, get_or-take, get_or-replicate}
-use Rattle.mc_model.specs.Names.{Name, AreNames}
+use Rattle.mc_model.specs.Names.{Name}
 use Rattle.mc_model.specs.Numbers.{ListsOnce}
 use Rattle.mc_lists.proofs.Counted.{ListsOnce-same}
 use Rattle.mc_model.specs.Pattern.{Gate, J, CZ}
 use Rattle.mc_model.specs.Valid.{GatesFit}
 use Rattle.mc_circuit.specs.Circuits.{IsBegun, AnglesFit, broken_rule}
-
--- without gates the names may change
-pub begun_with : (half : ℕ) (names names' : List Name) (inputs : ℕ) (gates : List Gate)
-    → IsBegun half (record { names = names; inputs = inputs; outputs = []; gates = gates })
-    → gates ≡ [] → AreNames names' → length names ≤ length names'
-    → IsBegun half (record { names = names'; inputs = inputs; outputs = []; gates = gates })
-begun_with half names names' inputs gates h none valid longer = record {
-  permitted = h.permitted;
-  names = valid;
-  inputs = let i = h.inputs in omega arith;
-  gates = subst (λ (gs : List Gate). GatesFit (length names') gs) (sym none) tt;
-  few = h.few;
-  angles = h.angles;
-}
 
 -- a gate that breaks no rule
 fits_by : (wires v u : ℕ) (t s r : Bool) → nat_lt v wires ≡ t → nat_lt u wires ≡ s → nat_eq v u ≡ r

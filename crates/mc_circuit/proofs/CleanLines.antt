@@ -11,7 +11,7 @@ use Rattle.std.proofs.Math.Seq.{get_or-append_seam}
 use Rattle.std.proofs.lemmas.List.Elements.{filter_map-append}
 use Rattle.std.proofs.lemmas.List.Sums.{sum_by-append, sum_by-cons}
 use Rattle.mc_model.specs.Names.{Name, AreNames, name_eq, is_name, is_held}
-use Rattle.mc_model.specs.Pattern.{Circuit, Gate, CZ}
+use Rattle.mc_model.specs.Pattern.{Gate, CZ}
 use Rattle.mc_model.specs.Pattern as plain
 use Rattle.mc_model.specs.Steps.{is_permitted}
 use Rattle.mc_model.specs.Valid.{GatesFit}

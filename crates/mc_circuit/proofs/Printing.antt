@@ -50,7 +50,8 @@ parts half c =
     ∙ rw (all, last) refl
 
 -- what is written, part by part
-pub record IsPrinted (half : ℕ) (c : Circuit) (headed with_inputs with_plus with_gates with_outputs whole : List ℕ) : Type 0 where
+pub record IsPrinted (half : ℕ) (c : Circuit)
+    (headed with_inputs with_plus with_gates with_outputs whole : List ℕ) : Type 0 where
   pub header : headed ≡ line_text (header_words kind.Circuit 1 half)
   pub inputs : with_inputs ≡ headed ++ line_text (codes "in" ∷ take c.inputs c.names)
   pub plus : with_plus ≡ with_inputs ++ text_of (plus_lines (drop c.inputs c.names))

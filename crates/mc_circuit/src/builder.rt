@@ -2,7 +2,7 @@
 
 ghost use Rattle.std.specs.Prelude.{◌≡◌, ◌↔◌, ℕ, ◌<◌, ◌≤◌, [], ◌∷◌, ◌++◌, length, map, Err};
 ghost use Rattle.std.specs.Prelude.{Some};
-ghost use Rattle.std.specs.Prelude.{None, OnOk, IfOk, OnErr, IfErr, IsTrue, true, nat_lt};
+ghost use Rattle.std.specs.Prelude.{None, OnOk, IfOk, OnErr, IfErr, IsTrue, true};
 ghost use Rattle.mc_model.specs.Steps.{is_permitted};
 ghost use Rattle.mc_model.specs.Limits.{most_qubits, most_gates};
 ghost use Rattle.mc_model.specs.Names.{place_of};
@@ -164,11 +164,7 @@ impl<const H: usize> CircuitBuilder<H> {
 
     /// The circuit with these outputs. `Rule(3)` comes where a wire does not stand there once or another number does.
     /// A refusal hands the builder back as it was.
-    pub fn finish(
-        self,
-        alloc: Global,
-        out: &[u16],
-    ) -> Result<Circuit<H>, (CircuitBuilder<H>, CircuitEnd)>
+    pub fn finish(self, out: &[u16]) -> Result<Circuit<H>, (CircuitBuilder<H>, CircuitEnd)>
         ensures circuit { IfOk result (λ circuit. circuit ≡ record self.entry { outputs = out.now }) }
         ensures lists { OnOk result (ListsOnce (length self.entry.names) (λ v. true) out.now) }
         ensures rule { IfErr result (λ refused. (refused.1 ≡ CircuitEnd.Rule 3) ↔
@@ -180,6 +176,7 @@ impl<const H: usize> CircuitBuilder<H> {
         if !lists_each(self.names.len(), out) {
             return Err((self, CircuitEnd::Rule(3)));
         }
+        let alloc = *self.gates.allocator();
         match out.to_vec(alloc) {
             Ok(out) => Ok(Circuit {
                 names: self.names,

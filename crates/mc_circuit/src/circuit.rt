@@ -1,7 +1,6 @@
 //! Valid circuits.
 
-ghost use Rattle.std.specs.Prelude.{◌≡◌, ◌≤◌, length, map};
-ghost use Rattle.mc_model.specs.Valid.{IsValidCircuit};
+ghost use Rattle.std.specs.Prelude.{◌≡◌, map};
 ghost use Rattle.mc_circuit.specs.Gates.{plain_gate};
 
 use crate::gate::Gate;
@@ -19,7 +18,7 @@ pub struct Circuit<const H: usize> {
 }
 
 impl<const H: usize> Model for Circuit<H> {
-    ghost use Rattle.std.specs.Prelude.{◌≤◌, length, map};
+    ghost use Rattle.std.specs.Prelude.{map};
     ghost use Rattle.mc_model.specs.Pattern.{Circuit as Plain};
     ghost use Rattle.mc_circuit.specs.Circuits.{IsCircuit};
     ghost use Rattle.mc_circuit.specs.Gates.{plain_gate};

@@ -1,13 +1,13 @@
 //! What the words and the ends of the lines of a circuit do.
 
-ghost use Rattle.std.specs.Prelude.{◌≡◌, ◌↔◌, ℕ, ◌*◌, ◌<◌, List, Option, true, ◌++◌, ◌∷◌, []};
-ghost use Rattle.std.specs.Prelude.{length, map, OnOk, OnErr, IfOk, IfErr, IsTrue, Some, None};
+ghost use Rattle.std.specs.Prelude.{◌≡◌, ◌↔◌, ℕ, ◌*◌, ◌<◌, List, Option, true, []};
+ghost use Rattle.std.specs.Prelude.{length, OnOk, IfErr, IsTrue, Some, None};
 ghost use Rattle.std.specs.Prelude.{nat_eq};
 ghost use Rattle.std.specs.List.{list_any, list_all};
 ghost use Rattle.mc_angle.specs.Angle.{angle_of};
 ghost use Rattle.mc_model.specs.Steps.{is_permitted};
 ghost use Rattle.mc_model.specs.Names.{is_held, place_of};
-ghost use Rattle.mc_text.specs.Rules.{known_name, listed_name, angle_word, AreNumbers};
+ghost use Rattle.mc_text.specs.Rules.{known_name, angle_word, AreNumbers};
 ghost use Rattle.mc_text.specs.Stops.{IsStop};
 ghost use Rattle.mc_circuit.specs.Roles.{role_of, may_follow, is_gate as gate_word, record_word};
 ghost use Rattle.mc_circuit.specs.Judge.{judge_by, lacks_by, second_word};

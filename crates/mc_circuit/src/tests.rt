@@ -22,15 +22,9 @@ fn builds_and_prints(rt: HostRuntime) -> Result<(), Fail> {
         Err(CircuitEnd::Rule(2))
     );
     assert_eq!(rt; builder.push(Gate::Cz { a: 1, b: 0 }), Ok(()));
-    let (builder, end) = builder
-        .finish(rt.alloc(), &[0, 0])
-        .err()
-        .expect(&rt, "wire 1 lacks");
+    let (builder, end) = builder.finish(&[0, 0]).err().expect(&rt, "wire 1 lacks");
     assert_eq!(rt; end, CircuitEnd::Rule(3));
-    let circuit = builder
-        .finish(rt.alloc(), &[1, 0])
-        .ok()
-        .expect(&rt, "a circuit");
+    let circuit = builder.finish(&[1, 0]).ok().expect(&rt, "a circuit");
     assert_eq!(rt;
         (
             circuit.inputs(),

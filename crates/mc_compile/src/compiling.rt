@@ -93,7 +93,7 @@ fn remade<const H: usize>(alloc: Global, p: &Pattern<H>) -> Result<Compiled<H>, 
     let made = make_pattern(alloc, &graph, &flow)?;
     let standard = standardise(alloc, &made)?;
     let (shifted, _change) = shift(alloc, &standard)?;
-    let pattern = shifted.as_pattern(alloc)?;
+    let pattern = shifted.as_pattern()?;
     Ok(Compiled {
         pattern,
         edges: graph.edge_count(),

@@ -20,7 +20,7 @@ fn compiles_one_gate(rt: HostRuntime) -> Result<(), Fail> {
         angle: Angle::of(1),
     };
     assert_eq!(rt; builder.push(j), Ok(()));
-    let Ok(circuit) = builder.finish(alloc, &[0]) else {
+    let Ok(circuit) = builder.finish(&[0]) else {
         assert!(rt; false);
         return Ok(());
     };

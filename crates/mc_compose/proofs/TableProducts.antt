@@ -5,14 +5,13 @@ use Rattle.std.specs.Prelude.{ℤ}
 use Rattle.mc_model.specs.Bits.{bits_of}
 use Rattle.mc_model.specs.Ring.{Element, ring, product, plus, times, zeros}
 use Rattle.mc_ring.specs.Matrices as matrices
-use Rattle.mc_ring.specs.Matrices.{Entries, at, products, sum_below, IsProduct, StaysBelow}
+use Rattle.mc_ring.specs.Matrices.{Entries, at, products, sum_below, IsProduct}
 use Rattle.mc_ring.specs.Matrices.{LeavesAt}
 use Rattle.mc_cyclo.specs.Height.{IsInRange}
 use Rattle.mc_run.specs.Settings.{spelled}
 use Rattle.mc_run.specs.Tables.{TableValue}
 use Rattle.mc_compose.specs.Laws.{SumsRunOverNumbers}
 use Rattle.mc_compose.specs.Sums as sums
-use Rattle.mc_compose.specs.Sums.{sum_over_bits}
 use Rattle.mc_compose.specs.Products.{IsMatrixOf, terms, IsTableProduct, MultipliesAmplitudes}
 use Rattle.mc_compose.specs.Products.{LeavesRange, StaysInRange}
 

@@ -1,10 +1,10 @@
 -- The root of two times an element, and which elements it divides, by coordinates.
-use Rattle.std.proofs.Common.{◌≡◌, ℕ, ℤ, ◌+◌, ◌+ℤ◌, List, [], ◌∷◌, length, suc, refl, sym, ap, ap₂}
-use Rattle.std.proofs.Common.{◌∙◌, arith, IsTrue, subst}
+use Rattle.std.proofs.Common.{◌≡◌, ℕ, ℤ, ◌+ℤ◌, List, [], ◌∷◌, length, suc, refl, sym, ap, ap₂}
+use Rattle.std.proofs.Common.{◌∙◌, arith, subst}
 use Rattle.std.specs.Prelude.{◌↔◌, ⊤}
 use Rattle.std.proofs.lemmas.Int.{ints}
 use lib.IntN.{neg_ℤ}
-use Rattle.mc_model.specs.Ring.{plus, rotations}
+use Rattle.mc_model.specs.Ring.{plus}
 use Rattle.mc_cyclo.specs.Cyclo.{IsLong}
 use Rattle.mc_model.specs.Roots.{root_times}
 use Rattle.mc_cyclo.specs.RootLaws.{IsRooted, DifferEvenly, RootOfEighths, RootDividesEighths}

@@ -5,13 +5,11 @@ use Rattle.std.proofs.Common.{◌∷◌, ◌++◌, length, arith, sym, ap, ap₂
 use Rattle.std.proofs.Common.{neg_ℤ, pos}
 use Rattle.std.proofs.lemmas.List.{take-append-drop, length-drop, get_or_append_left}
 use Rattle.std.proofs.lemmas.List.{get_or-append_right, get_or-drop, get_or-take}
-use Rattle.std.proofs.Math.Seq.{take-append_seam, drop-append_seam}
 use Rattle.mc_model.specs.Ring.{minus, rotated, rotations, length-minus}
 use Rattle.mc_model.proofs.RingLemmas.{rotations_back, rotations_add, rotations_half}
 use Rattle.mc_model.proofs.RingLemmas.{length-rotations}
 use Rattle.mc_model.proofs.RootTwo.{minus_minus}
 use Rattle.mc_cyclo.proofs.Places.{at, at-minus, drop-more, drop-whole}
-use Rattle.mc_cyclo.specs.Height.{height, IsInRange}
 
 -- the part of `s` coordinates that goes round
 abbrev pub round : ℕ → List ℤ → List ℤ
@@ -28,24 +26,6 @@ rotations_parts : (s : ℕ) (a : List ℤ) → s ≤ length a →
 rotations_parts s a h =
     ap₂ rotations (sym (length-round s a h)) (sym (take-append-drop (length a - s) a))
     ∙ rotations_back (stayed s a) (round s a)
-
-front : (s : ℕ) (a r : List ℤ) → s ≤ length a → r ≡ round s a ++ stayed s a →
-    take s r ≡ round s a
-front s a r h e =
-    ap (take s) e ∙ ap (λ n. take n (round s a ++ stayed s a)) (sym (length-round s a h))
-    ∙ take-append_seam (round s a) (stayed s a)
-
-back : (s : ℕ) (a r : List ℤ) → s ≤ length a → r ≡ round s a ++ stayed s a →
-    drop s r ≡ stayed s a
-back s a r h e =
-    ap (drop s) e ∙ ap (λ n. drop n (round s a ++ stayed s a)) (sym (length-round s a h))
-    ∙ drop-append_seam (round s a) (stayed s a)
-
--- `s` steps, of which there are no more than in half a turn
-pub turned_by_parts : (s : ℕ) (a r : List ℤ) → s ≤ length a → r ≡ round s a ++ stayed s a →
-    minus (take s r) ++ drop s r ≡ rotations s a
-turned_by_parts s a r h e =
-    ap₂ (λ x y. minus x ++ y) (front s a r h e) (back s a r h e) ∙ sym (rotations_parts s a h)
 
 -- ---- coordinates behind `s` steps
 
@@ -66,16 +46,6 @@ at-stayed s a i h l =
     ∙ get_or-append_right (minus (round s a)) (stayed s a) s i (pos 0)
     (length-minus (round s a) ∙ length-round s a few) h
     ∙ get_or-take (length a - s) a (i - s) (pos 0) (omega arith)
-
-height-drop : (n : ℕ) (a : List ℤ) → height (drop n a) ≤ height a
-height-drop zero a = omega arith
-height-drop (suc n) [] = omega arith
-height-drop (suc n) (x ∷ xs) = omega (arith, height-drop n xs)
-
-pub round_in_range : (s : ℕ) (a r : List ℤ) → s ≤ length a → r ≡ round s a ++ stayed s a →
-    IsInRange a → IsInRange (take s r)
-round_in_range s a r h e low =
-    omega (arith, ap height (front s a r h e), height-drop (length a - s) a)
 
 -- ---- whole and half turns
 

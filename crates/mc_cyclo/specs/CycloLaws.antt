@@ -1,5 +1,5 @@
 -- The laws that elements of the amplitude ring give to generic code.
-use Rattle.std.specs.Prelude.{◌≡◌, ℕ, zero, suc, ◌<◌, List, ℤ, IsTrue}
+use Rattle.std.specs.Prelude.{ℕ, zero, suc, ◌<◌, IsTrue}
 use Rattle.std.proofs.Common.{arith, sym, ap, ◌∙◌, refl}
 use Rattle.std.proofs.lemmas.Bool.Decides.{nat_tests}
 use Rattle.mc_model.specs.Steps.{is_permitted}

@@ -67,29 +67,6 @@ pub fn negate(coordinates: &mut [i64])
     }
 }
 
-/// Multiplies by `w^k`: what goes round comes back as its negative.
-pub fn turn(coordinates: &mut [i64], k: u32)
-    requires some { 0 < length coordinates.old }
-    requires in_range { IsInRange coordinates.old }
-    ensures { coordinates.new ≡ rotations k coordinates.old }
-{
-    let half = coordinates.len();
-    let (half_turns, steps) = (k as usize / half, k as usize % half);
-    coordinates.rotate_right(steps);
-    negate(&mut coordinates[..steps]);
-    if half_turns % 2 == 1 {
-        negate(coordinates);
-    }
-}
-
-fn difference_of(x: i64, y: i64) -> i64
-    requires low_x { unsigned_abs x ≤ 2 ^ 60 }
-    requires low_y { unsigned_abs y ≤ 2 ^ 60 }
-    ensures { result ≡ x +ℤ neg_ℤ y }
-{
-    x - y
-}
-
 /// The coordinate at a place behind so many steps, of which there are no more than in half a turn.
 fn turned_at(coordinates: &[i64], steps: usize, i: usize) -> i64
     requires few { steps ≤ length coordinates.now }
@@ -102,6 +79,41 @@ fn turned_at(coordinates: &[i64], steps: usize, i: usize) -> i64
     } else {
         coordinates[i - steps]
     }
+}
+
+/// Writes the coordinates behind so many steps.
+fn turn_by_steps(coordinates: &[i64], steps: usize, turned: &mut [i64])
+    requires few { steps ≤ length coordinates.now }
+    requires alike { length turned.old ≡ length coordinates.now }
+    requires in_range { IsInRange coordinates.now }
+    ensures { turned.new ≡ rotations steps coordinates.now }
+{
+    for i in 0..coordinates.len() {
+        turned[i] = turned_at(coordinates, steps, i);
+    }
+}
+
+/// Writes the coordinates times `w^k`: what goes round comes back as its negative.
+pub fn turn(coordinates: &[i64], k: u32, turned: &mut [i64])
+    requires some { 0 < length coordinates.now }
+    requires alike { length turned.old ≡ length coordinates.now }
+    requires in_range { IsInRange coordinates.now }
+    ensures { turned.new ≡ rotations k coordinates.now }
+{
+    let half = coordinates.len();
+    let (half_turns, steps) = (k as usize / half, k as usize % half);
+    turn_by_steps(coordinates, steps, turned);
+    if half_turns % 2 == 1 {
+        negate(turned);
+    }
+}
+
+fn difference_of(x: i64, y: i64) -> i64
+    requires low_x { unsigned_abs x ≤ 2 ^ 60 }
+    requires low_y { unsigned_abs y ≤ 2 ^ 60 }
+    ensures { result ≡ x +ℤ neg_ℤ y }
+{
+    x - y
 }
 
 /// Writes the sum with the other coordinates behind so many steps, and the difference.

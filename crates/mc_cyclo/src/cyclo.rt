@@ -82,11 +82,11 @@ impl<const H: usize> Cyclo<H> {
         ensures { MatchOption result ((a : List ℤ) → IsLong H a → self.now ≢ root_times H a)
             (λ a. (self.now ≡ root_times H a) × IsLong H a) }
     {
-        let mut twice = self.coordinates;
-        let mut other = self.coordinates;
+        let own = &self.coordinates;
         let quarter = (H / 4) as u32;
-        turn(&mut twice, quarter);
-        turn(&mut other, 7 * quarter);
+        let (mut twice, mut other) = ([0; H], [0; H]);
+        turn(own, quarter, &mut twice);
+        turn(own, 7 * quarter, &mut other);
         add_to(&mut twice, &other);
         let mut coordinates = [0; H];
         if halve(&twice, &mut coordinates) {
@@ -176,8 +176,8 @@ impl<const H: usize> PhaseRing for Cyclo<H> {
     ghost height_laws = { λ p. cyclo_heights H };
 
     fn turn(&self, k: u32) -> Self {
-        let mut coordinates = self.coordinates;
-        turn(&mut coordinates, k);
+        let mut coordinates = [0; H];
+        turn(&self.coordinates, k, &mut coordinates);
         Cyclo { coordinates }
     }
 

@@ -1,7 +1,7 @@
 //! Phases between lists of elements.
 
-ghost use Rattle.std.specs.Prelude.{◌≡◌, ℕ, ◌*◌, ◌<◌, ◌↔◌, length, IsTrue, MatchOption};
-ghost use Rattle.mc_cyclo.specs.Phase.{IsPhase};
+ghost use Rattle.std.specs.Prelude.{◌≡◌, ◌↔◌, length, IsTrue};
+ghost use Rattle.mc_cyclo.specs.Phase.{IsPhase, IsLeastPhase};
 
 use crate::cyclo::Cyclo;
 use mc_ring::{PhaseRing, Ring};
@@ -22,9 +22,7 @@ fn is_phase<const H: usize>(a: &[Cyclo<H>], b: &[Cyclo<H>], k: u32) -> bool
 /// there is none.
 pub fn phase_between<const H: usize>(a: &[Cyclo<H>], b: &[Cyclo<H>]) -> Option<u32>
     requires { length a.now ≡ length b.now }
-    ensures { MatchOption result ((k : ℕ) → k < 2 * H → ¬ IsPhase a.now b.now k)
-        (λ k. (k < 2 * H) × IsPhase a.now b.now k ×
-        ((j : ℕ) → j < k → ¬ IsPhase a.now b.now j)) }
+    ensures { IsLeastPhase H a.now b.now result }
 {
     match b.first() {
         Some(entry) => entry.known(),

@@ -279,10 +279,6 @@ one_cause c d = elim (cases_Bool (is_wrong c d)) [
     one_most true = omega arith
     one_most false = omega arith
 
-new_most : (all : Bool) (n : ℕ) → n ≤ 1 → cond all n 0 ≤ one_if all
-new_most true n h = omega arith
-new_most false n h = omega arith
-
 either_cost : (a b : Bool) (most : ℕ) → cond (a || b) most 0 ≤ cond a most 0 + cond b most 0
 either_cost true true most = omega arith
 either_cost true false most = omega arith

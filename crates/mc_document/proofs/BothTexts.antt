@@ -1,4 +1,4 @@
--- Texts that begin with a header, alone or with another text behind them.
+-- Texts that begin with a header, with another text behind them or as a second section.
 use Rattle.std.proofs.Common.{◌≡◌, ℕ, List, [], ◌∷◌, ◌++◌, drop, Some, None, refl, ap, ◌∙◌}
 use Rattle.mc_lex.specs.declared.kind.Kind.{Kind}
 use Rattle.mc_lex.specs.Lines.{Line, lines_from, lines_of, end_of, parts_of}
@@ -6,7 +6,7 @@ use Rattle.mc_text.specs.Headers.{half_in}
 use Rattle.mc_text.specs.Judged.{Lines, Place, Rules, first_in_section}
 use Rattle.mc_text.specs.Judged.{section_lines, behind_section}
 use Rattle.mc_document.specs.declared.takes.Takes.{Takes}
-use Rattle.mc_document.specs.Kinds.{first_form, refused_kind}
+use Rattle.mc_document.specs.Documents.{first_form, refused_kind}
 use Rattle.mc_document.specs.Places.{place_in}
 use Rattle.mc_document.specs.Second.{Second, first_behind_first, spelled_second}
 use Rattle.mc_document.specs.Sections.{first_in_kind, first_in_lines, first_in_text, spelled}
@@ -17,10 +17,12 @@ use Rattle.mc_document.proofs.Headers.{versioned}
 use Rattle.mc_document.proofs.Joined.{IsEnded, joined, numbered_shapes, section_more}
 use Rattle.mc_document.proofs.Seconds.{second_same}
 
--- the lines of a text behind its header have no fault, and end where the text does
-pub record IsSectionRead (rules : Rules) (text : List ℕ) : Type 0 where
+-- the lines of a text behind its header have no fault, end where the text does, and spell `x`
+pub record IsReadAs {A : Type 0} (rules : Rules) (value : Lines → A) (text : List ℕ) (x : A)
+    : Type 0 where
   pub clean : first_in_section rules [] (drop 1 (lines_of text)) (end_of text) ≡ None
   pub whole : behind_section (drop 1 (lines_of text)) ≡ []
+  pub same : value (section_lines (drop 1 (lines_of text))) ≡ x
 
 -- ---- a text with another one behind it, which may be empty
 
@@ -38,11 +40,12 @@ pub record IsBoth {A : Type 0} (rules : Rules) (behind : Second) (spells : Kind 
   pub spelled : spelled_second spells (behind_section lines)
       ≡ spelled_second (λ kind here. spells kind place) (lines_of second)
 
-pub both_read : {A : Type 0} (rules : Rules) (behind : Second) (spells : Kind → Place → Lines → A)
-    (first second : List ℕ) (ended : IsEnded first) (end : Place) → IsSectionRead rules first →
+pub both_read : {A B : Type 0} (rules : Rules) (behind : Second)
+    (spells : Kind → Place → Lines → A) (value : Lines → B) (x : B) (first second : List ℕ)
+    (ended : IsEnded first) (end : Place) → IsReadAs rules value first x →
     first_behind_first behind (lines_of second) (end_of second) ≡ None →
     IsBoth rules behind spells first second (both_lines first second ended) end
-both_read rules behind spells first second ended end read clean =
+both_read rules behind spells value x first second ended end read clean =
     let later = (joined first second ended).0 in
     let more = lines_from later second in
     let at = section_more rules [] (drop 1 (lines_of first)) more (end_of first) end read.clean in
@@ -67,7 +70,7 @@ both_named kind version half first second ended h =
     ∙ ap (λ (x : List Line). x ++ lines_from (joined first second ended).0 second) h.0.rest
 
 -- the header of a first section is permitted
-first_clean : (half : ℕ) (takes : Takes) (kind : Kind) (version step : ℕ) (text : List ℕ)
+pub first_clean : (half : ℕ) (takes : Takes) (kind : Kind) (version step : ℕ) (text : List ℕ)
     (h : HasHeader kind version step text) (lines : List Line) (end : Place) →
     refused_kind takes kind ≡ None → Permits (first_form kind) version step →
     first_in_lines half takes (h.0.line ∷ lines) end
@@ -105,35 +108,14 @@ both_stepped kind version step first second ended h =
     (both_named kind version step first second ended h)
     ∙ stepped kind version step first h
 
--- ---- a section alone
-
-pub alone_first : (half : ℕ) (takes : Takes) (kind : Kind) (version step : ℕ) (text : List ℕ) →
-    HasHeader kind version step text → refused_kind takes kind ≡ None →
-    Permits (first_form kind) version step →
-    first_in_text half takes text
-    ≡ first_in_kind half takes (Some kind) version (drop 1 (lines_of text)) (end_of text)
-alone_first half takes kind version step text h taken permits =
-    ap (λ (ls : List Line). first_in_lines half takes ls (end_of text)) h.0.rest
-    ∙ first_clean half takes kind version step text h _ _ taken permits
-
-pub alone_spelled : (half : ℕ) (kind : Kind) (version step : ℕ) (text : List ℕ) →
-    HasHeader kind version step text →
-    spelled half text ≡ spelled_in_kind half (Some kind) (drop 1 (lines_of text))
-alone_spelled half kind version step text h =
-    ap (spelled_lines half) h.0.rest ∙ rw (named kind version step text h) refl
-
-pub alone_stepped : (kind : Kind) (version step : ℕ) (text : List ℕ) →
-    HasHeader kind version step text → half_of text ≡ step
-alone_stepped kind version step text h =
-    ap (λ (ls : List Line). half_in (first_words ls)) h.0.rest ∙ stepped kind version step text h
-
 -- ---- a second section, which begins with its own header
 
-pub second_stands : (second : Second) (kind : Kind) (version step : ℕ) (text : List ℕ) →
-    HasHeader kind version step text → second.refused kind ≡ None →
-    Permits (second.form kind) version step → IsSectionRead (second.rules kind version) text →
+pub second_stands : {A : Type 0} (second : Second) (kind : Kind) (version step : ℕ)
+    (text : List ℕ) (value : Lines → A) (x : A) → HasHeader kind version step text →
+    second.refused kind ≡ None → Permits (second.form kind) version step →
+    IsReadAs (second.rules kind version) value text x →
     first_behind_first second (lines_of text) (end_of text) ≡ None
-second_stands second kind version step text h free permits read =
+second_stands second kind version step text value x h free permits read =
     ap (λ (ls : List Line). first_behind_first second ls (end_of text)) h.0.rest
     ∙ rw (
       header_clean second.refused _ second.form kind version step text h free permits,

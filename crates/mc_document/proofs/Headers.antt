@@ -2,13 +2,16 @@
 -- its kind may, and where its form permits what it says.
 use Rattle.std.proofs.Common.{◌≡◌, ℕ, ◌+◌, true, false, List, [], ◌∷◌, ◌++◌, drop, Some}
 use Rattle.std.proofs.Common.{None, Option, length, refl, sym, ap, ◌∙◌, inl, inr}
+use Rattle.std.proofs.Common.{Bool, IsTrue, if◌then◌else◌}
 use Rattle.std.specs.List.{list_all}
+use Rattle.std.proofs.lemmas.Bool.{eqb-true}
+use Rattle.std.proofs.lemmas.Bool.Decides.{eqb_tells}
 use Rattle.std.proofs.lemmas.List.{append-nil}
 use Rattle.mc_lex.specs.declared.kind.Kind.{Kind}
-use Rattle.mc_lex.specs.declared.kind.Kind.TheVariants.{Circuit, Pattern, Graph, Change, Flow}
-use Rattle.mc_lex.specs.declared.kind.Kind.TheVariants.{NoFlow, NoCausal, Trace, Least, Gates}
+use Rattle.mc_lex.specs.declared.kind.Kind.TheVariants.{Circuit}
 use Rattle.mc_lex.specs.Kinds.{kind_of, spelling}
 use Rattle.mc_lex.specs.Lines.{word, Line, line_of, lines_from, lines_of}
+use Rattle.mc_model.specs.Steps.{is_permitted}
 use Rattle.mc_write.specs.Text.{line_text, text_of}
 use Rattle.mc_text.specs.declared.fault.Fault.{Fault}
 use Rattle.mc_text.specs.declared.form.Form.{Form}
@@ -84,17 +87,19 @@ abbrev pub HasHeader : Kind → ℕ → ℕ → List ℕ → Type 0
 HasHeader kind version half text =
     HasFirst (header_words kind version half) text × IsVersion version × IsHalf half
 
+pub permitted_half : (half : ℕ) → IsTrue (is_permitted half) → IsHalf half
+permitted_half half p = elim (eqb_tells half 4) [
+  | inl e ↦ inl e.1
+  | inr e ↦ inr (eqb-true half 8 (rw e.0 at p))
+]
+
+pub known_version : (fixed : Bool) → IsVersion (if fixed then 2 else 1)
+known_version true = inr refl
+known_version false = inl refl
+
 kind_written : (kind : Kind) → is_written (spelling kind) ≡ true
 kind_written Circuit = refl
-kind_written Pattern = refl
-kind_written Graph = refl
-kind_written Change = refl
-kind_written Flow = refl
-kind_written NoFlow = refl
-kind_written NoCausal = refl
-kind_written Trace = refl
-kind_written Least = refl
-kind_written Gates = refl
+kind_written _ = refl
 
 header_written : (kind : Kind) (version half : ℕ) → IsVersion version → IsHalf half →
     is_written_line (header_words kind version half) ≡ true
@@ -125,6 +130,10 @@ stepped kind version half text h = ap half_in h.0.said ∙ half_back kind versio
 pub record Permits (form : Form) (version half : ℕ) : Type 0 where
   pub second : version ≡ 2 → form.second ≡ true
   pub turning : half ≡ 8 → (may_say form.turning ≡ true) × (is_other form.turning 8 ≡ false)
+
+-- a plain header is permitted everywhere
+pub plain_permits : (form : Form) → Permits form 1 4
+plain_permits form = record { second = λ e. absurd (cc e); turning = λ e. absurd (cc e) }
 
 words_clean : (refused : Kind → Option Fault) (unknown : Fault) (form : Kind → Form)
     (first : List ℕ) (kind : Kind) (version half : ℕ) → kind_of first ≡ Some kind →

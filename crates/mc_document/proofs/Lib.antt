@@ -1,5 +1,11 @@
 pub mod BothTexts
-pub mod CanonicalTexts
+pub mod CleanTexts
+pub mod AloneDocuments
+pub mod CircuitDocuments
+pub mod GateDocuments
+pub mod PatternDocuments
+pub mod GraphDocuments
+pub mod ByKind
 pub mod Headers
 pub mod Joined
 pub mod Opening
@@ -14,4 +20,3 @@ pub mod SoundCerts
 pub mod SoundTraces
 pub mod GateLines
 pub mod SoundGates
-pub mod ValidDocuments

@@ -4,8 +4,8 @@ use Rattle.std.proofs.Common.{◌∙◌, ap, subst, false}
 use Rattle.std.proofs.Common.{if◌then◌else◌}
 use Rattle.std.specs.Option.{option_map}
 use Rattle.mc_lex.specs.declared.kind.Kind.{Kind}
-use Rattle.mc_lex.specs.declared.kind.Kind.TheVariants.{Circuit, Pattern, Graph, Change, Flow}
-use Rattle.mc_lex.specs.declared.kind.Kind.TheVariants.{NoFlow, NoCausal, Trace, Least, Gates}
+use Rattle.mc_lex.specs.declared.kind.Kind.TheVariants.{Pattern, Change, Trace}
+use Rattle.mc_lex.specs.declared.kind.Kind.TheVariants.{Flow, NoFlow, NoCausal, Least}
 use Rattle.mc_lex.specs.Lines.{Item, word, bad, Line}
 use Rattle.mc_lex.specs.declared.end.TextEnd.{TextEnd}
 use Rattle.mc_lex.specs.declared.end.TextEnd.TheVariants as end
@@ -19,12 +19,11 @@ use Rattle.mc_text.specs.Headers.{plain_forms, first_in_header, IsHeader, kind_i
 use Rattle.mc_text.specs.Stops.{IsEnd}
 use Rattle.mc_cert_text.specs.Kinds.{IsCertKind}
 use Rattle.mc_document.specs.declared.takes.Takes.{Takes}
-use Rattle.mc_document.specs.Kinds.{first_form, form_behind_pattern, refused_behind_graph}
-use Rattle.mc_document.specs.Kinds.{refused_behind_pattern, refused_kind}
-use Rattle.mc_document.specs.Second.{Second, first_behind_first, first_in_second}
-use Rattle.mc_document.specs.Second.{spelled_second}
-use Rattle.mc_document.specs.Sections.{StandsBehindPattern, StartsDocument, first_in_kind}
-use Rattle.mc_document.specs.Sections.{first_in_lines}
+use Rattle.mc_document.specs.Documents.{first_form, refused_kind}
+use Rattle.mc_document.specs.Second.{Second, first_behind_first, first_in_second, spelled_second}
+use Rattle.mc_document.specs.Second.{form_behind_pattern, refused_behind_graph}
+use Rattle.mc_document.specs.Second.{refused_behind_pattern}
+use Rattle.mc_document.specs.Sections.{StandsBehindPattern, first_in_kind, first_in_lines}
 use Rattle.mc_document.specs.Sections.{spelled_in_kind, spelled_lines}
 use Rattle.mc_document.specs.Places.{place_in, place_in_lines}
 use Rattle.mc_document.proofs.Joined.{first_of_both}
@@ -145,20 +144,6 @@ header_first half takes (line ∷ lines) end opened given some opens h =
     end_first given _ _ (subst (λ (left : Left). IsEnd given
     (first_in_header (refused_kind takes) NoKind first_form left.here left.lack)) opens h)
 
--- the header of a document that nothing is against is that of a circuit, a pattern, a graph or
--- a list of gates
-starts_kind : (takes : Takes) (kind : Kind) → refused_kind takes kind ≡ None → StartsDocument kind
-starts_kind takes Circuit clean = tt
-starts_kind takes Pattern clean = tt
-starts_kind takes Graph clean = tt
-starts_kind takes Change clean = absurd (cc clean)
-starts_kind takes Flow clean = absurd (cc clean)
-starts_kind takes NoFlow clean = absurd (cc clean)
-starts_kind takes NoCausal clean = absurd (cc clean)
-starts_kind takes Trace clean = absurd (cc clean)
-starts_kind takes Least clean = absurd (cc clean)
-starts_kind takes Gates clean = tt
-
 pub unrefused : (place : Place) (refused : Option Fault) →
     placed place (option_map fault refused) ≡ None → refused ≡ None
 unrefused place None clean = refl
@@ -176,23 +161,17 @@ kind_stands refused unknown form (bad line column ∷ items) lack kind place h c
 pub starts : (takes : Takes) (items : List Item) (lack : Place) (kind : Kind) (place : Place) →
     IsHeader kind place items →
     first_in_header (refused_kind takes) NoKind first_form items lack ≡ None →
-    StartsDocument kind
+    refused_kind takes kind ≡ None
 starts takes items lack kind place h clean =
-    starts_kind takes kind
-    (kind_stands (refused_kind takes) NoKind first_form items lack kind place h clean)
+    kind_stands (refused_kind takes) NoKind first_form items lack kind place h clean
 
 -- the header behind a graph that nothing is against is that of a certificate
-certifies : (kind : Kind) → refused_behind_graph kind ≡ None → IsCertKind kind
-certifies Circuit clean = absurd (cc clean)
-certifies Pattern clean = absurd (cc clean)
-certifies Graph clean = absurd (cc clean)
-certifies Change clean = absurd (cc clean)
+pub certifies : (kind : Kind) → refused_behind_graph kind ≡ None → IsCertKind kind
 certifies Flow clean = tt
 certifies NoFlow clean = tt
 certifies NoCausal clean = tt
-certifies Trace clean = absurd (cc clean)
 certifies Least clean = tt
-certifies Gates clean = absurd (cc clean)
+certifies _ clean = absurd (cc clean)
 
 pub starts_cert : (items : List Item) (lack : Place) (kind : Kind) (place : Place) →
     IsHeader kind place items →
@@ -204,16 +183,10 @@ starts_cert items lack kind place h clean =
 -- what nothing is against behind a pattern is a change, a trace or a second pattern
 stands_behind : (takes : Takes) (kind : Kind) → refused_behind_pattern takes kind ≡ None →
     StandsBehindPattern kind
-stands_behind takes Circuit clean = absurd (cc clean)
 stands_behind takes Pattern clean = tt
-stands_behind takes Graph clean = absurd (cc clean)
 stands_behind takes Change clean = tt
-stands_behind takes Flow clean = absurd (cc clean)
-stands_behind takes NoFlow clean = absurd (cc clean)
-stands_behind takes NoCausal clean = absurd (cc clean)
 stands_behind takes Trace clean = tt
-stands_behind takes Least clean = absurd (cc clean)
-stands_behind takes Gates clean = absurd (cc clean)
+stands_behind takes _ clean = absurd (cc clean)
 
 pub starts_second : (half : ℕ) (takes : Takes) (items : List Item) (lack : Place) (kind : Kind)
     (place : Place) → IsHeader kind place items →

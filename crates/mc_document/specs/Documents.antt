@@ -1,9 +1,18 @@
--- Documents as what they are about, and their canonical texts.
-use Rattle.std.specs.Prelude.{ℕ, List, [], ◌++◌, Option, None, Some, option_map, ⊤}
+-- The kinds of document: which a command takes, what they are about, and their canonical texts.
+use Rattle.std.specs.Prelude.{◌≡◌, ℕ, List, [], ◌++◌, Bool, true, false, if◌then◌else◌, IsTrue}
+use Rattle.std.specs.Prelude.{Option, None, Some, is_some, option_map, ⊤}
+use Rattle.mc_lex.specs.declared.kind.Kind.{Kind}
+use Rattle.mc_lex.specs.declared.kind.Kind.TheVariants as kind
 use Rattle.mc_model.specs.Derivation.{Use}
-use Rattle.mc_model.specs.Graph.{OpenGraph}
+use Rattle.mc_model.specs.Graph.{OpenGraph, zero_pattern}
 use Rattle.mc_model.specs.Pattern.{Circuit, Pattern}
 use Rattle.mc_model.specs.Shift.{ChangeRow, IsChangeOf}
+use Rattle.mc_model.specs.Translation.{translation}
+use Rattle.mc_text.specs.declared.fault.Fault.{Fault}
+use Rattle.mc_text.specs.declared.fault.Fault.TheVariants.{NoKind, KindNotTaken}
+use Rattle.mc_text.specs.declared.form.Form.{Form}
+use Rattle.mc_text.specs.declared.form.Turning.TheVariants.{Said}
+use Rattle.mc_text.specs.Headers.{plain_form}
 use Rattle.mc_circuit.specs.Circuits.{IsCircuit}
 use Rattle.mc_circuit.specs.Canonical.{circuit_text}
 use Rattle.mc_pattern.specs.Patterns.{IsPattern}
@@ -18,9 +27,76 @@ use Rattle.mc_cert_text.specs.Canonical.{cert_text}
 use Rattle.mc_cert_text.specs.Certs.{PlainCert, plain_cert, IsCertOf}
 use Rattle.mc_gates.specs.Gates.{GateList}
 use Rattle.mc_gates.specs.Lists.{IsGateList}
+use Rattle.mc_gates.specs.Lowering.{lowered}
 use Rattle.mc_gates_text.specs.Canonical.{gates_text}
 use Rattle.mc_document.specs.declared.document.Document.{Document}
 use Rattle.mc_document.specs.declared.document.Document.TheVariants as code
+use Rattle.mc_document.specs.declared.takes.Takes.{Takes}
+use Rattle.mc_document.specs.Second.{is_due_behind_pattern}
+
+-- ---- which kinds a document begins with
+
+-- the kinds of document that a command takes: none at all
+abbrev pub no_kind : Takes
+no_kind = record {
+  circuit = false;
+  pattern = false;
+  graph = false;
+  cert = false;
+  trace = false;
+  two = false;
+  gates = false;
+}
+
+abbrev pub only_circuits : Takes
+only_circuits = record no_kind { circuit = true }
+
+abbrev pub circuits_and_patterns : Takes
+circuits_and_patterns = record no_kind { circuit = true; pattern = true }
+
+abbrev pub patterns_and_graphs : Takes
+patterns_and_graphs = record no_kind { pattern = true; graph = true }
+
+-- what has a pattern: a circuit that of its translation, a graph the one without a flow
+abbrev pub every_source : Takes
+every_source = record no_kind { circuit = true; pattern = true; graph = true }
+
+abbrev pub every_kind : Takes
+every_kind = record every_source { gates = true }
+
+abbrev pub certified_graphs : Takes
+certified_graphs = record no_kind { graph = true; cert = true }
+
+-- what says that something holds: a graph with a certificate, a pattern with a trace
+abbrev pub certified_kinds : Takes
+certified_kinds = record no_kind { pattern = true; graph = true; cert = true; trace = true }
+
+abbrev pub two_patterns : Takes
+two_patterns = record no_kind { pattern = true; two = true }
+
+abbrev pub only_gates : Takes
+only_gates = record no_kind { gates = true }
+
+abbrev pub unless_taken : Bool → Option Fault
+unless_taken taken = if taken then None else Some KindNotTaken
+
+-- the fault of a header that names this kind: a document begins with a circuit, a pattern, a graph
+-- or a list of gates
+abbrev pub refused_kind : Takes → Kind → Option Fault
+refused_kind takes kind.Circuit = unless_taken takes.circuit
+refused_kind takes kind.Pattern = unless_taken takes.pattern
+refused_kind takes kind.Graph = unless_taken takes.graph
+refused_kind takes kind.Gates = unless_taken takes.gates
+refused_kind takes _ = Some NoKind
+
+-- what the header of a first section may say: the step, and of a pattern or a graph both versions
+abbrev pub first_form : Kind → Form
+first_form kind.Circuit = record { second = false; turning = Said }
+first_form kind.Pattern = record { second = true; turning = Said }
+first_form kind.Graph = record { second = true; turning = Said }
+first_form _ = plain_form
+
+-- ---- what documents are about
 
 -- a circuit; a pattern with or without a change of its outcomes, or with a trace; two patterns, with
 -- the line and the column at which the second begins; an open graph with or without a certificate; or
@@ -42,65 +118,60 @@ plain_document (code.Two p q line column) = two p q line column
 plain_document (code.Graph g cert) = graph g (option_map plain_cert cert)
 plain_document (code.Gates g) = gates g
 
+-- the document is of a kind that is taken, and has the second section that is due
+abbrev pub IsTaken : Takes → PlainDocument → Type 0
+IsTaken takes (circuit c) = takes.circuit ≡ true
+IsTaken takes (pattern p change) =
+    (takes.pattern ≡ true) × (is_due_behind_pattern takes ≡ false)
+IsTaken takes (traced p uses) = (takes.pattern ≡ true) × (takes.two ≡ false)
+IsTaken takes (two p q line column) = (takes.pattern ≡ true) × (takes.two ≡ true)
+IsTaken takes (graph g cert) =
+    (takes.graph ≡ true) × (takes.cert ≡ true → IsTrue (is_some cert))
+IsTaken takes (gates g) = takes.gates ≡ true
+
 -- a document as one of a kind, where it is of that kind
 abbrev pub circuit_in : PlainDocument → Option Circuit
 circuit_in (circuit c) = Some c
-circuit_in (pattern p change) = None
-circuit_in (traced p uses) = None
-circuit_in (two p q line column) = None
-circuit_in (graph g cert) = None
-circuit_in (gates g) = None
+circuit_in _ = None
 
 abbrev pub pattern_in : PlainDocument → Option Pattern
-pattern_in (circuit c) = None
 pattern_in (pattern p change) = Some p
 pattern_in (traced p uses) = Some p
-pattern_in (two p q line column) = None
-pattern_in (graph g cert) = None
-pattern_in (gates g) = None
+pattern_in _ = None
 
 abbrev pub graph_in : PlainDocument → Option OpenGraph
-graph_in (circuit c) = None
-graph_in (pattern p change) = None
-graph_in (traced p uses) = None
-graph_in (two p q line column) = None
 graph_in (graph g cert) = Some g
-graph_in (gates g) = None
+graph_in _ = None
 
 -- the certificate of a graph, where there is one
 abbrev pub cert_in : PlainDocument → Option PlainCert
-cert_in (circuit c) = None
-cert_in (pattern p change) = None
-cert_in (traced p uses) = None
-cert_in (two p q line column) = None
 cert_in (graph g cert) = cert
-cert_in (gates g) = None
+cert_in _ = None
 
 -- the uses of rules in the trace behind a pattern, where there is one
 abbrev pub traced_in : PlainDocument → Option (List Use)
-traced_in (circuit c) = None
-traced_in (pattern p change) = None
 traced_in (traced p uses) = Some uses
-traced_in (two p q line column) = None
-traced_in (graph g cert) = None
-traced_in (gates g) = None
+traced_in _ = None
 
 -- two patterns, with the line and the column at which the second begins
 abbrev pub two_in : PlainDocument → Option (Pattern × Pattern × ℕ × ℕ)
-two_in (circuit c) = None
-two_in (pattern p change) = None
-two_in (traced p uses) = None
 two_in (two p q line column) = Some (p, q, line, column)
-two_in (graph g cert) = None
-two_in (gates g) = None
+two_in _ = None
 
 abbrev pub gates_in : PlainDocument → Option GateList
-gates_in (circuit c) = None
-gates_in (pattern p change) = None
-gates_in (traced p uses) = None
-gates_in (two p q line column) = None
-gates_in (graph g cert) = None
 gates_in (gates g) = Some g
+gates_in _ = None
+
+-- the pattern that a document stands for: a circuit counts as its translation, and a graph as its
+-- pattern without a flow; no command that asks for it takes two patterns, which count as the first
+-- here, or gates, which count as the circuit that they are lowered to
+abbrev pub source_pattern : ℕ → PlainDocument → Pattern
+source_pattern half (circuit c) = translation half c
+source_pattern half (pattern p change) = p
+source_pattern half (traced p uses) = p
+source_pattern half (two p q line column) = p
+source_pattern half (graph g cert) = zero_pattern g
+source_pattern half (gates g) = translation half (lowered g)
 
 -- the change of a pattern's outcomes, where there is one, has a row for each measured qubit, in
 -- measuring order, and names in it only qubits that were measured before, in order
@@ -123,6 +194,8 @@ IsDocument half (traced p uses) = IsPattern half p × CanBeWritten uses
 IsDocument half (two p q line column) = IsPattern half p × IsPattern half q
 IsDocument half (graph g cert) = IsGraph half g × IsAnyCertOf g cert
 IsDocument half (gates g) = IsGateList g
+
+-- ---- their canonical texts
 
 -- the canonical text of what stands behind a pattern or a graph
 abbrev pub change_behind : Pattern → Option (List ChangeRow) → List ℕ

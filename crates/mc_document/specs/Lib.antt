@@ -1,5 +1,4 @@
 pub mod Documents
-pub mod Kinds
 pub mod Places
 pub mod Samples
 pub mod Second

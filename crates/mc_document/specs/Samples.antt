@@ -7,8 +7,8 @@ use Rattle.mc_text.specs.declared.fault.Fault.TheVariants.{StepDiffers, BehindEn
 use Rattle.mc_text.specs.declared.fault.Fault.TheVariants.{KindNotTaken}
 use Rattle.mc_text.specs.Judged.{fault}
 use Rattle.mc_document.specs.declared.takes.Takes.{Takes}
-use Rattle.mc_document.specs.Documents.{two}
-use Rattle.mc_document.specs.Kinds.{certified_kinds, every_kind, every_source, two_patterns}
+use Rattle.mc_document.specs.Documents.{certified_kinds, every_kind, every_source, two}
+use Rattle.mc_document.specs.Documents.{two_patterns}
 use Rattle.mc_document.specs.Sections.{first_in_text, spelled}
 use Rattle.mc_document.specs.Turns.{half_of}
 

@@ -1,15 +1,54 @@
--- What stands behind the first section of a document: its first fault or limit, and what it spells.
-use Rattle.std.specs.Prelude.{ℕ, List, [], ◌∷◌, Bool, if◌then◌else◌, Option, None, Some}
-use Rattle.std.specs.Prelude.{option_map}
+-- What may stand behind the first section of a document, its first fault or limit, and what it
+-- spells.
+use Rattle.std.specs.Prelude.{ℕ, List, [], ◌∷◌, Bool, true, not, ◌||◌, if◌then◌else◌}
+use Rattle.std.specs.Prelude.{Option, None, Some, option_map}
 use Rattle.mc_lex.specs.declared.kind.Kind.{Kind}
+use Rattle.mc_lex.specs.declared.kind.Kind.TheVariants.{Pattern, Change, Trace}
+use Rattle.mc_lex.specs.declared.kind.Kind.TheVariants.{Flow, NoFlow, NoCausal, Least}
 use Rattle.mc_lex.specs.Lines.{Line}
 use Rattle.mc_text.specs.declared.fault.Fault.{Fault}
 use Rattle.mc_text.specs.declared.fault.Fault.TheVariants.{BehindEnd, NoSecond}
 use Rattle.mc_text.specs.Judged.{Judgement, fault, Place, Lines, Rules, or_later, words_of}
 use Rattle.mc_text.specs.Judged.{first_in_line, first_in_section, section_lines, behind_section}
 use Rattle.mc_text.specs.declared.form.Form.{Form}
-use Rattle.mc_text.specs.Headers.{first_in_header, kind_in, version_in}
+use Rattle.mc_text.specs.declared.form.Turning.TheVariants.{Unsaid, Like}
+use Rattle.mc_text.specs.Headers.{first_in_header, kind_in, plain_form, version_in}
+use Rattle.mc_document.specs.declared.takes.Takes.{Takes}
 use Rattle.mc_document.specs.Places.{place_in}
+
+-- ---- which kinds may stand where, and what their headers may say
+
+-- whether something must stand behind a pattern
+abbrev pub is_due_behind_pattern : Takes → Bool
+is_due_behind_pattern takes = takes.two || takes.trace
+
+abbrev pub unless_stands : Bool → Option Fault
+unless_stands stands = if stands then None else Some BehindEnd
+
+-- the fault of a header behind a pattern: a change or a trace may stand there; a trace must where
+-- one is due, and where two patterns are due a second pattern
+abbrev pub refused_behind_pattern : Takes → Kind → Option Fault
+refused_behind_pattern takes Change = unless_stands (not (is_due_behind_pattern takes))
+refused_behind_pattern takes Trace = unless_stands (not takes.two)
+refused_behind_pattern takes Pattern = unless_stands takes.two
+refused_behind_pattern takes _ = Some BehindEnd
+
+-- what a header behind a pattern may say: a change and a second pattern have both versions, and a
+-- second pattern may say the step of the first
+abbrev pub form_behind_pattern : ℕ → Kind → Form
+form_behind_pattern half Change = record { second = true; turning = Unsaid }
+form_behind_pattern half Pattern = record { second = true; turning = Like half }
+form_behind_pattern half _ = plain_form
+
+-- the fault of a header behind a graph: only a certificate may stand there
+abbrev pub refused_behind_graph : Kind → Option Fault
+refused_behind_graph Flow = None
+refused_behind_graph NoFlow = None
+refused_behind_graph NoCausal = None
+refused_behind_graph Least = None
+refused_behind_graph _ = Some BehindEnd
+
+-- ---- what is first, and what is spelled
 
 -- nothing may stand behind a document
 abbrev pub nothing_more : Rules

@@ -23,9 +23,10 @@ use Rattle.mc_gates_text.specs.Judge.{gates_rules}
 use Rattle.mc_gates_text.specs.Value.{gate_list_of}
 use Rattle.mc_document.specs.declared.takes.Takes.{Takes}
 use Rattle.mc_document.specs.Documents.{PlainDocument, circuit, pattern, traced, two, graph, gates}
-use Rattle.mc_document.specs.Kinds.{first_form, form_behind_pattern, is_due_behind_pattern}
-use Rattle.mc_document.specs.Kinds.{refused_kind, refused_behind_pattern, refused_behind_graph}
+use Rattle.mc_document.specs.Documents.{first_form, refused_kind}
 use Rattle.mc_document.specs.Second.{Second, first_behind, first_behind_first, spelled_second}
+use Rattle.mc_document.specs.Second.{form_behind_pattern, is_due_behind_pattern}
+use Rattle.mc_document.specs.Second.{refused_behind_graph, refused_behind_pattern}
 
 -- how the lines behind a pattern are judged, by their kind and version
 abbrev pub rules_behind_pattern : plain.Pattern → Kind → ℕ → Rules
@@ -51,22 +52,18 @@ behind_graph due g = record {
   rules = λ kind version. cert_rules kind g.names;
 }
 
--- the first of a circuit or a list of gates, or of a pattern or a graph of a version, and of what
--- stands behind it,
--- with angles of so many steps in half a turn
-abbrev pub first_in_circuit : List Line → Place → Option (Judgement × Place)
-first_in_circuit lines end =
-    or_later (first_in_section circuit_rules [] lines end) (first_behind (behind_section lines))
+-- the first of a section that is a document alone, and of what stands behind it
+abbrev pub first_alone : Rules → List Line → Place → Option (Judgement × Place)
+first_alone rules lines end =
+    or_later (first_in_section rules [] lines end) (first_behind (behind_section lines))
 
+-- the first of a pattern or a graph of a version, with angles of so many steps in half a turn, and
+-- of what stands behind it
 abbrev pub first_in_pattern : ℕ → Takes → ℕ → List Line → Place → Option (Judgement × Place)
 first_in_pattern half takes version lines end =
     or_later (first_in_section (pattern_rules version) [] lines end)
     (first_behind_first (behind_pattern half takes (pattern_of half (section_lines lines)))
     (behind_section lines) end)
-
-abbrev pub first_in_gates : List Line → Place → Option (Judgement × Place)
-first_in_gates lines end =
-    or_later (first_in_section gates_rules [] lines end) (first_behind (behind_section lines))
 
 abbrev pub first_in_graph : ℕ → Bool → ℕ → List Line → Place → Option (Judgement × Place)
 first_in_graph half due version lines end =
@@ -74,15 +71,15 @@ first_in_graph half due version lines end =
     (first_behind_first (behind_graph due (graph_in half (section_lines lines)))
     (behind_section lines) end)
 
--- the same of a kind and a version
+-- the first of a kind and a version
 abbrev pub first_in_kind : ℕ → Takes → Option Kind → ℕ → List Line → Place
     → Option (Judgement × Place)
-first_in_kind half takes (Some Circuit) version lines end = first_in_circuit lines end
+first_in_kind half takes (Some Circuit) version lines end = first_alone circuit_rules lines end
 first_in_kind half takes (Some Pattern) version lines end =
     first_in_pattern half takes version lines end
 first_in_kind half takes (Some Graph) version lines end =
     first_in_graph half takes.cert version lines end
-first_in_kind half takes (Some Gates) version lines end = first_in_gates lines end
+first_in_kind half takes (Some Gates) version lines end = first_alone gates_rules lines end
 first_in_kind half takes _ version lines end = None
 
 -- the first of a document: of its header, its sections, and what stands behind
@@ -137,14 +134,6 @@ spelled_lines half (line ∷ lines) = spelled_in_kind half (kind_in (words_of li
 -- the document that a text without faults spells
 abbrev pub spelled : ℕ → List ℕ → Option PlainDocument
 spelled half text = spelled_lines half (lines_of text)
-
--- the kinds with which a document begins
-abbrev pub StartsDocument : Kind → Type 0
-StartsDocument Circuit = ⊤
-StartsDocument Pattern = ⊤
-StartsDocument Graph = ⊤
-StartsDocument Gates = ⊤
-StartsDocument _ = ⊥
 
 -- the kinds that stand behind a pattern
 abbrev pub StandsBehindPattern : Kind → Type 0

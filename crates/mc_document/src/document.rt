@@ -1,16 +1,20 @@
-//! The kinds of document, and how a document is looked at.
+//! The kinds of document, how a document is looked at, and its canonical text.
 
-ghost use Rattle.std.specs.Prelude.{◌≡◌, IsTrue, Some, is_some};
+ghost use Rattle.std.specs.Prelude.{◌≡◌, IfOk, IsTrue, None, Some, is_some};
 ghost use Rattle.mc_cert_text.specs.Certs.{plain_cert};
 ghost use Rattle.mc_document.specs.Documents.{cert_in, circuit_in, gates_in, graph_in, pattern_in};
-ghost use Rattle.mc_document.specs.Documents.{plain_document, traced_in, two_in};
+ghost use Rattle.mc_document.specs.Documents.{IsDocument, document_text, plain_document, traced_in, two_in};
 
+use crate::print::{print_with_any, print_with_any_cert, print_with_trace};
 use mc_cert_text::Cert;
-use mc_circuit::Circuit;
+use mc_circuit::{Circuit, print_circuit};
 use mc_gates::GateList;
+use mc_gates_text::print_gates;
 use mc_graph::OpenGraph;
+use mc_model::Memory;
 use mc_pattern::{Change, Pattern};
 use mc_trace::Derivation;
+use std::alloc::Global;
 
 /// A document: a circuit; a pattern with or without a change of its outcomes, or with a trace, which need not lead anywhere;
 /// two patterns, with the line and the column at which the second begins; an open graph with or without a certificate, which
@@ -130,6 +134,7 @@ impl<const H: usize> Document<H> {
             _ => unreachable!(),
         }
     }
+
     /// The list of gates of a document that is one.
     pub fn into_gates(self) -> GateList
         requires { IsTrue (is_some (gates_in (plain_document self))) }
@@ -139,5 +144,24 @@ impl<const H: usize> Document<H> {
             Document::Gates(gates) => gates,
             _ => unreachable!(),
         }
+    }
+}
+
+/// The canonical text of a document that has no second pattern; its second section stands behind the first.
+pub fn print_document<const H: usize>(
+    alloc: Global,
+    document: &Document<H>,
+) -> Result<Vec<u8>, Memory>
+    requires valid { IsDocument H (plain_document document.now) }
+    requires not_two { two_in (plain_document document.now) ≡ None }
+    ensures { IfOk result (λ text. text.items ≡ document_text H (plain_document document.now)) }
+{
+    match document {
+        Document::Circuit(circuit) => print_circuit(alloc, circuit),
+        Document::Pattern(pattern, change) => print_with_any(alloc, pattern, change),
+        Document::Graph(graph, cert) => print_with_any_cert(alloc, graph, cert),
+        Document::Traced(pattern, uses) => print_with_trace(alloc, pattern, uses),
+        Document::Gates(gates) => print_gates(alloc, gates),
+        Document::Two(_, _, _, _) => unreachable!(),
     }
 }

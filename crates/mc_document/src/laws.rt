@@ -4,12 +4,11 @@ ghost use Rattle.std.specs.Prelude.{◌≡◌, ℕ, List, None, Some, IsSomeAnd,
 ghost use Rattle.mc_model.specs.Steps.{is_permitted};
 ghost use Rattle.mc_text.specs.Judged.{Place};
 ghost use Rattle.mc_document.specs.declared.takes.Takes.{Takes};
-ghost use Rattle.mc_document.specs.Documents.{document_text, two};
-ghost use Rattle.mc_document.specs.Documents.{IsDocument, PlainDocument, cert_in, circuit_in};
-ghost use Rattle.mc_document.specs.Documents.{gates_in, graph_in, pattern_in, traced_in, two_in};
-ghost use Rattle.mc_document.specs.Kinds.{IsTaken, certified_graphs, certified_kinds, circuits_and_patterns};
-ghost use Rattle.mc_document.specs.Kinds.{every_kind, every_source, only_circuits, only_gates};
-ghost use Rattle.mc_document.specs.Kinds.{patterns_and_graphs, two_patterns};
+ghost use Rattle.mc_document.specs.Documents.{IsDocument, IsTaken, PlainDocument, cert_in, certified_graphs};
+ghost use Rattle.mc_document.specs.Documents.{certified_kinds, circuit_in, circuits_and_patterns, document_text};
+ghost use Rattle.mc_document.specs.Documents.{every_kind, every_source, gates_in, graph_in, only_circuits};
+ghost use Rattle.mc_document.specs.Documents.{only_gates, pattern_in, patterns_and_graphs, traced_in, two};
+ghost use Rattle.mc_document.specs.Documents.{two_in, two_patterns};
 ghost use Rattle.mc_document.specs.Sections.{first_in_text, spelled};
 ghost use Rattle.mc_document.specs.Turns.{half_of};
 ghost use Rattle.mc_model.specs.Pattern.{Pattern};
@@ -32,6 +31,7 @@ pub fn clean_texts_spell_documents()
 }
 
 /// A document of a kind that is taken is seen as one of the kinds that are taken.
+#[tactic(auto, using(crate::proofs::ByKind::documents_seen))]
 pub fn taken_documents_are_seen()
     ensures circuit { (d : PlainDocument) → IsTaken only_circuits d → IsTrue (is_some (circuit_in d)) }
     ensures other { (d : PlainDocument) → IsTaken circuits_and_patterns d → is_some (circuit_in d) ≡ false →

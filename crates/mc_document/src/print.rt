@@ -1,6 +1,6 @@
-//! Printing a document.
+//! Printing two sections, one behind the other.
 
-ghost use Rattle.std.specs.Prelude.{◌≡◌, ◌++◌, None, IfOk, OnOk, option_map};
+ghost use Rattle.std.specs.Prelude.{◌≡◌, ◌++◌, IfOk, OnOk, option_map};
 ghost use Rattle.mc_model.specs.Shift.{IsChangeOf};
 ghost use Rattle.mc_pattern_text.specs.Canonical.{pattern_text};
 ghost use Rattle.mc_change_text.specs.Canonical.{change_text};
@@ -10,15 +10,10 @@ ghost use Rattle.mc_trace_text.specs.Traces.{CanBeWritten};
 ghost use Rattle.mc_graph_text.specs.Canonical.{graph_text};
 ghost use Rattle.mc_cert_text.specs.Canonical.{cert_text};
 ghost use Rattle.mc_cert_text.specs.Certs.{HasShortNumbers, IsCertIn, IsCertOf, plain_cert};
-ghost use Rattle.mc_document.specs.Documents.{cert_behind, change_behind, document_text};
-ghost use Rattle.mc_document.specs.Documents.{IsAnyCertOf, IsAnyChangeOf, IsDocument};
-ghost use Rattle.mc_document.specs.Documents.{plain_document, two_in};
+ghost use Rattle.mc_document.specs.Documents.{IsAnyCertOf, IsAnyChangeOf, cert_behind, change_behind};
 
-use crate::document::Document;
 use mc_cert_text::{Cert, print_cert};
 use mc_change_text::print_change;
-use mc_circuit::print_circuit;
-use mc_gates_text::print_gates;
 use mc_graph::OpenGraph;
 use mc_graph_text::print_graph;
 use mc_model::Memory;
@@ -28,27 +23,8 @@ use mc_trace::Derivation;
 use mc_trace_text::print_trace;
 use std::alloc::Global;
 
-/// The canonical text of a document that has no second pattern; its second section stands behind the first.
-pub fn print_document<const H: usize>(
-    alloc: Global,
-    document: &Document<H>,
-) -> Result<Vec<u8>, Memory>
-    requires valid { IsDocument H (plain_document document.now) }
-    requires not_two { two_in (plain_document document.now) ≡ None }
-    ensures { IfOk result (λ text. text.items ≡ document_text H (plain_document document.now)) }
-{
-    match document {
-        Document::Circuit(circuit) => print_circuit(alloc, circuit),
-        Document::Pattern(pattern, change) => print_with_any(alloc, pattern, change),
-        Document::Graph(graph, cert) => print_with_any_cert(alloc, graph, cert),
-        Document::Traced(pattern, uses) => print_with_trace(alloc, pattern, uses),
-        Document::Gates(gates) => print_gates(alloc, gates),
-        Document::Two(_, _, _, _) => unreachable!(),
-    }
-}
-
 /// The text of a pattern with the change of its outcomes behind it, if there is one.
-fn print_with_any<const H: usize>(
+pub(crate) fn print_with_any<const H: usize>(
     alloc: Global,
     pattern: &Pattern<H>,
     change: &Option<Change>,
@@ -104,7 +80,7 @@ fn joined(mut text: Vec<u8>, behind: Vec<u8>) -> Result<Vec<u8>, Memory>
 }
 
 /// The text of a graph with its certificate behind it, if there is one.
-fn print_with_any_cert<const H: usize>(
+pub(crate) fn print_with_any_cert<const H: usize>(
     alloc: Global,
     graph: &OpenGraph<H>,
     cert: &Option<Cert>,

@@ -5,13 +5,14 @@ ghost use Rattle.mc_model.specs.Limits.{most_bytes};
 ghost use Rattle.mc_model.specs.Steps.{is_permitted};
 ghost use Rattle.mc_text.specs.Judged.{section_lines};
 ghost use Rattle.mc_text.specs.Stops.{IsEnd};
+ghost use Rattle.mc_circuit.specs.Judge.{circuit_rules};
 ghost use Rattle.mc_circuit.specs.Value.{circuit_of};
 ghost use Rattle.mc_gates.specs.Lists.{IsGateList};
+ghost use Rattle.mc_gates_text.specs.Judge.{gates_rules};
 ghost use Rattle.mc_gates_text.specs.Value.{gate_list_of};
-ghost use Rattle.mc_document.specs.Documents.{IsDocument, plain_document};
-ghost use Rattle.mc_document.specs.Kinds.{IsTaken};
-ghost use Rattle.mc_document.specs.Sections.{StartsDocument, first_in_circuit, first_in_gates};
-ghost use Rattle.mc_document.specs.Sections.{first_in_graph, first_in_kind, first_in_lines, first_in_pattern};
+ghost use Rattle.mc_document.specs.Documents.{IsDocument, IsTaken, plain_document, refused_kind};
+ghost use Rattle.mc_document.specs.Sections.{first_alone, first_in_graph, first_in_kind};
+ghost use Rattle.mc_document.specs.Sections.{first_in_lines, first_in_pattern};
 ghost use Rattle.mc_document.specs.Sections.{first_in_text, spelled, spelled_graph};
 ghost use Rattle.mc_document.specs.Sections.{spelled_in_kind, spelled_lines, spelled_pattern};
 ghost use Rattle.mc_document.specs.Places.{first_place, place_in_lines};
@@ -87,7 +88,7 @@ fn read_opening<const H: usize>(takes: Takes, words: &mut Words<'_>) -> Result<H
         spelled_lines H words.old.later ≡ spelled_in_kind H (Some header.kind) words.new.later) }
     ensures place { IfOk result (λ header.
         place_in_lines words.old.later words.old.last ≡ (header.line, header.column)) }
-    ensures starts { IfOk result (λ header. StartsDocument header.kind) }
+    ensures starts { IfOk result (λ header. refused_kind takes header.kind ≡ None) }
     ensures err { IfErr result (λ end. IsEnd end (first_in_lines H takes words.old.later words.old.last)) }
 {
     if !words.next_line() {
@@ -108,7 +109,7 @@ fn read_sections<const H: usize>(
     words: &mut Words<'_>,
 ) -> Result<Document<H>, TextEnd>
     requires permitted { IsTrue (is_permitted H) }
-    requires starts { StartsDocument header.kind }
+    requires starts { refused_kind takes header.kind ≡ None }
     ensures clean { OnOk result
         (first_in_kind H takes (Some header.kind) header.version words.old.later words.old.last ≡ None) }
     ensures value { IfOk result (λ document.
@@ -138,9 +139,9 @@ fn read_circuit_alone<const H: usize>(
     words: &mut Words<'_>,
 ) -> Result<Circuit<H>, TextEnd>
     requires { IsTrue (is_permitted H) }
-    ensures clean { OnOk result (first_in_circuit words.old.later words.old.last ≡ None) }
+    ensures clean { OnOk result (first_alone circuit_rules words.old.later words.old.last ≡ None) }
     ensures value { IfOk result (λ c. c ≡ circuit_of H (section_lines words.old.later)) }
-    ensures err { IfErr result (λ end. IsEnd end (first_in_circuit words.old.later words.old.last)) }
+    ensures err { IfErr result (λ end. IsEnd end (first_alone circuit_rules words.old.later words.old.last)) }
 {
     let circuit = match read_circuit(alloc, words) {
         Ok(circuit) => circuit,
@@ -154,10 +155,10 @@ fn read_circuit_alone<const H: usize>(
 
 /// Reads the lines of a list of gates, behind which nothing more may stand.
 fn read_gates_alone(alloc: Global, words: &mut Words<'_>) -> Result<GateList, TextEnd>
-    ensures clean { OnOk result (first_in_gates words.old.later words.old.last ≡ None) }
+    ensures clean { OnOk result (first_alone gates_rules words.old.later words.old.last ≡ None) }
     ensures value { IfOk result (λ g. g ≡ gate_list_of (section_lines words.old.later)) }
     ensures valid { IfOk result IsGateList }
-    ensures err { IfErr result (λ end. IsEnd end (first_in_gates words.old.later words.old.last)) }
+    ensures err { IfErr result (λ end. IsEnd end (first_alone gates_rules words.old.later words.old.last)) }
 {
     let gates = match read_gates(alloc, words) {
         Ok(gates) => gates,

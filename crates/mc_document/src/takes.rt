@@ -1,7 +1,8 @@
 //! The kinds of document that a command takes.
 
 ghost use Rattle.std.specs.Prelude.{◌≡◌};
-ghost use Rattle.mc_document.specs.Kinds.{unless_stands, unless_taken};
+ghost use Rattle.mc_document.specs.Documents.{unless_taken};
+ghost use Rattle.mc_document.specs.Second.{unless_stands};
 
 use mc_lex::Kind;
 use mc_text::{Fault, Form, Kinds, Turning};
@@ -20,10 +21,10 @@ pub struct Takes {
 }
 
 impl Takes {
-    ghost use Rattle.mc_document.specs.Kinds.{certified_graphs, certified_kinds, every_kind};
-    ghost use Rattle.mc_document.specs.Kinds.{circuits_and_patterns, every_source, is_due_behind_pattern, no_kind};
-    ghost use Rattle.mc_document.specs.Kinds.{only_circuits, only_gates, patterns_and_graphs};
-    ghost use Rattle.mc_document.specs.Kinds.{two_patterns};
+    ghost use Rattle.mc_document.specs.Documents.{certified_graphs, certified_kinds, circuits_and_patterns};
+    ghost use Rattle.mc_document.specs.Documents.{every_kind, every_source, no_kind, only_circuits, only_gates};
+    ghost use Rattle.mc_document.specs.Documents.{patterns_and_graphs, two_patterns};
+    ghost use Rattle.mc_document.specs.Second.{is_due_behind_pattern};
 
     /// No document at all.
     fn none() -> Takes
@@ -168,7 +169,7 @@ pub(crate) struct First {
 
 impl Kinds for First {
     ghost use Rattle.mc_text.specs.declared.fault.Fault.TheVariants.{NoKind};
-    ghost use Rattle.mc_document.specs.Kinds.{first_form, refused_kind};
+    ghost use Rattle.mc_document.specs.Documents.{first_form, refused_kind};
 
     ghost refused = { λ first. refused_kind first.takes };
 
@@ -213,7 +214,7 @@ pub(crate) struct BehindPattern<const H: usize> {
 
 impl<const H: usize> Kinds for BehindPattern<H> {
     ghost use Rattle.mc_text.specs.declared.fault.Fault.TheVariants.{BehindEnd};
-    ghost use Rattle.mc_document.specs.Kinds.{form_behind_pattern, refused_behind_pattern};
+    ghost use Rattle.mc_document.specs.Second.{form_behind_pattern, refused_behind_pattern};
 
     ghost refused = { λ behind. refused_behind_pattern behind.takes };
 
@@ -256,7 +257,7 @@ pub(crate) struct BehindGraph;
 impl Kinds for BehindGraph {
     ghost use Rattle.mc_text.specs.Headers.{plain_forms};
     ghost use Rattle.mc_text.specs.declared.fault.Fault.TheVariants.{BehindEnd};
-    ghost use Rattle.mc_document.specs.Kinds.{refused_behind_graph};
+    ghost use Rattle.mc_document.specs.Second.{refused_behind_graph};
 
     ghost refused = { λ _. refused_behind_graph };
 

@@ -2,7 +2,6 @@ pub mod AlikeBases
 pub mod BasisAnswers
 pub mod BasisGrows
 pub mod BitSums
-pub mod FlippedMembers
 pub mod LeastSets
 pub mod NoMoreThanRows
 pub mod ReducedGrows

@@ -62,34 +62,6 @@ pushed xs x y u e before last =
     sides : (u n m : ℕ) → u < m → m ≡ n + 1 → (u < n) ⊎ (u ≡ n)
     sides u n m l e = grind arith
 
-pub one_more_answer : (basis : Inserted) (u : ℕ) (units : List Answer) (answer : Answer) →
-    AreAnswers basis u units → IsAnswer basis u answer →
-    AreAnswers basis (u + 1) (units ++ answer ∷ [])
-one_more_answer basis u units answer held is = record {
-  count = length-append units (answer ∷ []) ∙ ap (λ (n : ℕ). n + 1) held.count;
-  each = λ v other e. pushed units answer other v e (held.each v other)
-      (λ at same. subst (λ (w : ℕ). IsAnswer basis w other) (sym (at ∙ held.count))
-      (subst (λ (z : Answer). IsAnswer basis u z) (sym same) is));
-}
-
--- one more column was inserted
-pub one_more_column : (columns : List (List Bool)) (column : List Bool) (c : Columns) (m n : ℕ) →
-    length columns ≡ m → ((r : ℕ) → r < n → bit_of column r ≡ c m r) →
-    ((i r : ℕ) → i < m → r < n → entry columns i r ≡ c i r) →
-    (i r : ℕ) → i < m + 1 → r < n → entry (columns ++ column ∷ []) i r ≡ c i r
-one_more_column columns column c m n long new old i r l k = elim (sides i m l) [
-  | inl lt ↦
-      let within : i < length columns = omega (arith, long) in
-      ap (λ (row : List Bool). bit_of row r)
-      (get_or_append_left columns (column ∷ []) [] i within) ∙ old i r lt k
-  | inr at ↦
-      ap (λ (row : List Bool). bit_of row r) (get_or_push columns column [] i (long ∙ sym at))
-      ∙ new r k ∙ ap (λ (j : ℕ). c j r) (sym at)
-]
-  where
-    sides : (i m : ℕ) → i < m + 1 → (i < m) ⊎ (i ≡ m)
-    sides i m l = grind arith
-
 module _ (n m : ℕ) (c c' : Columns) (same : (j r : ℕ) → j < m → r < n → c j r ≡ c' j r) where
   pub solves_alike : (u : ℕ) (s : Bits) → Solves n m c u s → Solves n m c' u s
   solves_alike u s h r l =

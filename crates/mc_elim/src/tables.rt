@@ -1,10 +1,10 @@
 //! Single rows.
 
-ghost use Rattle.std.specs.Prelude.{◌≡◌, ◌≢◌, ◌<◌, ◌≤◌, ◌+◌, ◌&&◌, ℕ, MatchOption, length};
+ghost use Rattle.std.specs.Prelude.{◌≡◌, ◌≢◌, ◌<◌, ◌≤◌, ◌&&◌, ℕ, MatchOption, length};
 ghost use Rattle.std.specs.Prelude.{nat_eq};
-ghost use Rattle.std.specs.Prelude.{slice_index, slice_set, cond};
+ghost use Rattle.std.specs.Prelude.{slice_index};
 ghost use Rattle.mc_model.specs.Bits.{◌⊻◌};
-ghost use Rattle.mc_bits.specs.Rows.{bit_of, row_sum};
+ghost use Rattle.mc_bits.specs.Rows.{bit_of};
 ghost use Rattle.mc_elim.specs.Reduced.{IsNumberedBy, null_set};
 ghost use Rattle.mc_elim.specs.Tables.{row_at, entry};
 

@@ -1,10 +1,8 @@
 //! The least solution of each row of a matrix of bits, or what shows that there is none.
 
-ghost use Rattle.std.specs.Prelude.{◌≡◌, ◌<◌, ◌≤◌, ℕ, List, [], IfOk, MatchOption, OnOk, ◌&&◌};
-ghost use Rattle.std.specs.Prelude.{nat_eq, length};
-ghost use Rattle.mc_model.specs.Bits.{◌⊻◌};
+ghost use Rattle.std.specs.Prelude.{◌≡◌, ◌<◌, ◌≤◌, ℕ, List, [], IfOk, MatchOption};
+ghost use Rattle.std.specs.Prelude.{length};
 ghost use Rattle.mc_model.specs.Numbers.{is_member};
-ghost use Rattle.mc_ring.specs.BitRing.{bit_of_list};
 ghost use Rattle.mc_ring.specs.Matrices.{at};
 ghost use Rattle.mc_bits.specs.Rows.{bit_of};
 ghost use Rattle.mc_elim.specs.Basis.{count_of, columns_of};

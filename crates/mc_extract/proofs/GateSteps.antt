@@ -1,5 +1,5 @@
 -- What a loop that writes the gates holds: current vertices as bits, and the CZ gates of a row.
-use Rattle.std.proofs.Common.{◌≡◌, ℕ, true, false, List, [], ◌∷◌, sym, ◌∙◌, ap}
+use Rattle.std.proofs.Common.{◌≡◌, ℕ, true, false, List, ◌∷◌, sym, ◌∙◌, ap}
 use Rattle.std.specs.Prelude.{filter}
 use Rattle.std.proofs.lemmas.Bool.{cases_eq}
 use mathlib.Core.Path.{fun_ext}
@@ -8,17 +8,12 @@ use Rattle.mc_model.specs.Bits.{Bits, replaced}
 use Rattle.mc_model.specs.Numbers.{numbers_from}
 use Rattle.mc_model.specs.Graph.{OpenGraph, size, joins}
 use Rattle.mc_model.specs.Flow.{IsCausalFlow}
-use Rattle.mc_model.specs.Made.{is_first, is_current}
+use Rattle.mc_model.specs.Made.{is_current}
 use Rattle.mc_model.proofs.BitLemmas.{replaced_same, replaced_other}
 use Rattle.mc_graph.specs.Neighbours.{neighbours}
 use Rattle.mc_extract.proofs.Passing.{IsNextToPass, current_next, current_step, not_current}
-use Rattle.mc_extract.proofs.Wires.{current_first}
 use Rattle.mc_extract.proofs.EdgeSigns.{neighbours_now}
 use Rattle.mc_extract.proofs.Rounds.{filter-filter}
-
--- at first the current vertices are the first ones
-pub current_at_first : (g : OpenGraph) (next : ℕ → ℕ) → is_current g next [] ≡ is_first g next
-current_at_first g next = fun_ext (current_first g next)
 
 -- a step puts the next vertex in the place of the one that is passed
 pub current_moves : (g : OpenGraph) (next layer : ℕ → ℕ) → IsCausalFlow g next layer →

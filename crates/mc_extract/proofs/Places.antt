@@ -1,14 +1,14 @@
 -- Places of numbers in rising lists, and counts of numbers below a bound.
-use Rattle.std.proofs.Common.{◌≡◌, ℕ, zero, suc, ◌+◌, ◌<◌, ◌≤◌, Bool, true, false, cond, ◌&&◌}
+use Rattle.std.proofs.Common.{◌≡◌, ℕ, zero, suc, ◌+◌, ◌<◌, ◌≤◌, Bool, true, false, cond}
 use Rattle.std.proofs.Common.{◌||◌}
 use Rattle.std.proofs.Common.{List, [], ◌∷◌, length, refl, sym, ◌∙◌, ap, ap₂, arith}
-use Rattle.std.specs.Prelude.{◌⊎◌, nat_eq, nat_lt, filter, find, slice_get, unwrap_or, Option, Some}
+use Rattle.std.specs.Prelude.{◌⊎◌, nat_eq, filter, find, slice_get, unwrap_or, Option, Some}
 use Rattle.std.specs.Prelude.{None}
 use Rattle.std.specs.List.{position_from}
 use Rattle.std.proofs.lemmas.List.{length-append}
 use Rattle.std.proofs.lemmas.Iterator.Adapters.{position_from-zero}
 use Rattle.std.proofs.lemmas.Bool.{eq-eqb, ne_eqb, eqb-true, or_cases, cases_Bool, cases_eq}
-use Rattle.std.proofs.lemmas.Bool.{false≢true, true≢false, lt-ltb}
+use Rattle.std.proofs.lemmas.Bool.{false≢true, true≢false}
 use mathlib.Core.Logic.{inl, inr}
 use Rattle.mc_model.specs.Bits.{Bits}
 use Rattle.mc_model.specs.Numbers.{numbers_from, numbers_where, is_member}
@@ -16,7 +16,6 @@ use Rattle.mc_model.specs.Signals.{AllAbove, IsRising}
 use Rattle.mc_extract.specs.Chains.{place}
 use Rattle.mc_model.proofs.NumberLists.{numbers_where-last}
 use Rattle.mc_make.proofs.MeasuringOrder.{IsWhere}
-use Rattle.mc_model.proofs.NumberLists.{count-where, member_once}
 
 -- ---- the first number that passes a test
 
@@ -114,35 +113,6 @@ member_at_place (q ∷ qs) (suc j) l =
     either false b e = e
 
 -- ---- the numbers that pass a test
-
-where_above : (p : Bits) (r q n : ℕ) → r < q → AllAbove r (filter p (numbers_from q n))
-where_above p r q zero l = tt
-where_above p r q (suc n) l =
-    let rest = where_above p r (suc q) n (omega arith) in
-    elim (cases_Bool (p q)) [
-      | inl e ↦ rw e (l, rest)
-      | inr e ↦ rw e rest
-    ]
-
-where_rises : (p : Bits) (q n : ℕ) → IsRising (filter p (numbers_from q n))
-where_rises p q zero = tt
-where_rises p q (suc n) =
-    let rest = where_rises p (suc q) n in
-    elim (cases_Bool (p q)) [
-      | inl e ↦ rw e (where_above p q (suc q) n (omega arith), rest)
-      | inr e ↦ rw e rest
-    ]
-
-pub numbers_where-rise : (p : Bits) (n : ℕ) → IsRising (numbers_where p n)
-numbers_where-rise p n = where_rises p 0 n
-
-pub member-where : (p : Bits) (n k : ℕ) → is_member (numbers_where p n) k ≡ nat_lt k n && p k
-member-where p n k = member_once (numbers_where p n) k (nat_lt k n && p k) (count-where p n k)
-
-pub member-where-true : (p : Bits) (n k : ℕ) → k < n → p k ≡ true →
-    is_member (numbers_where p n) k ≡ true
-member-where-true p n k l e =
-    member-where p n k ∙ ap₂ (λ (a b : Bool). a && b) (lt-ltb k n l) e
 
 -- the first numbers, where all up to a place pass the test
 pub where_first : (p : Bits) (q n j : ℕ) → j < n → ((k : ℕ) → q ≤ k → k ≤ q + j → p k ≡ true) →

@@ -1,8 +1,7 @@
 //! How many gates are extracted.
 
-ghost use Rattle.std.specs.Prelude.{◌≡◌, ◌<◌, ◌≤◌, cond, nat_lt, filter, length};
+ghost use Rattle.std.specs.Prelude.{◌≡◌, ◌<◌, ◌≤◌, cond, length};
 ghost use Rattle.mc_model.specs.Graph.{size, fixed_corrections, corrections_at};
-ghost use Rattle.mc_graph.specs.Neighbours.{edges_up};
 ghost use Rattle.mc_extract.specs.Extracted.{gate_count};
 
 use mc_graph::OpenGraph;
@@ -12,39 +11,6 @@ fn one_if(told: bool) -> u32
     ensures few { result ≤ 1 }
 {
     if told { 1 } else { 0 }
-}
-
-/// How many numbers of a row are above a number.
-fn count_above(row: &[u16], v: u16) -> u32
-    requires { length row.now ≤ 256 }
-    ensures { result ≡ length (filter (nat_lt v) row.now) }
-{
-    let mut count = 0;
-    'row: for w in row {
-        count += one_if(v < *w);
-    }
-    count
-}
-
-/// How many neighbours of higher number a vertex has.
-fn count_up<const H: usize>(g: &OpenGraph<H>, v: u16) -> u32
-    requires { v < size g.now }
-    ensures count { result ≡ length (edges_up g.now v) }
-    ensures few { result ≤ 256 }
-{
-    let _count = g.len();
-    count_above(g.neighbours(v), v)
-}
-
-fn count_edges<const H: usize>(g: &OpenGraph<H>) -> u32
-    ensures count { result ≡ length g.now.edges }
-    ensures few { result ≤ 65536 }
-{
-    let mut count = 0;
-    'vertices: for v in 0..g.len() {
-        count += count_up(g, v);
-    }
-    count
 }
 
 fn count_fixed_at<const H: usize>(g: &OpenGraph<H>, v: u16) -> u32
@@ -71,5 +37,7 @@ fn count_fixed<const H: usize>(g: &OpenGraph<H>) -> u32
 pub fn gates_to_extract<const H: usize>(g: &OpenGraph<H>) -> u32
     ensures { result ≡ gate_count g.now }
 {
-    count_edges(g) + 2 * count_fixed(g)
+    let _count = g.len();
+    let edges = g.edge_count();
+    edges + 2 * count_fixed(g)
 }

@@ -33,7 +33,7 @@ fn circuit_of<const H: usize>(
     let mut circuit = without_gates(alloc, g, first)?;
     push_gates(g, next, order, wires, first, &mut circuit)?;
     let out = outputs_of(alloc, wires, g.outputs())?;
-    let circuit = with_outputs(alloc, circuit, &out)?;
+    let circuit = with_outputs(circuit, &out)?;
     Ok(circuit)
 }
 

@@ -1,6 +1,6 @@
 //! The finder of causal flows, by rounds (Mhalla and Perdrix 2008).
 
-ghost use Rattle.std.specs.Prelude.{◌≡◌, ◌<◌, ◌≤◌, ◌+◌, not, true, All, IfOk, None, find, filter};
+ghost use Rattle.std.specs.Prelude.{◌≡◌, ◌<◌, ◌+◌, not, true, All, IfOk, None, find, filter};
 ghost use Rattle.std.specs.Prelude.{map, length, slice_index_or};
 ghost use Rattle.mc_model.specs.Numbers.{numbers_from};
 ghost use Rattle.mc_model.specs.Graph.{size};

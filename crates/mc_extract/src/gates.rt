@@ -1,6 +1,6 @@
 //! The gates of an extracted circuit.
 
-ghost use Rattle.std.specs.Prelude.{◌≡◌, ◌<◌, ℕ, ◌∷◌, ◌++◌, [], ◌&&◌};
+ghost use Rattle.std.specs.Prelude.{◌≡◌, ◌<◌, ◌∷◌, [], ◌&&◌};
 ghost use Rattle.std.specs.Prelude.{OnOk, cond, false, true, flat_map, length};
 ghost use Rattle.std.specs.Prelude.{nat_le, slice_set, unwrap_or};
 ghost use Rattle.mc_model.specs.Numbers.{numbers_from};

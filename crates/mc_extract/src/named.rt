@@ -116,13 +116,12 @@ pub(crate) fn outputs_of(alloc: Global, wires: &[u16], outputs: &[u16]) -> Resul
 
 /// The circuit with these outputs.
 pub(crate) fn with_outputs<const H: usize>(
-    alloc: Global,
     circuit: CircuitBuilder<H>,
     out: &[u16],
 ) -> Result<Circuit<H>, Memory>
     ensures { IfOk result (λ made. made ≡ record circuit.entry { outputs = out.now }) }
 {
-    match circuit.finish(alloc, out) {
+    match circuit.finish(out) {
         Ok(circuit) => Ok(circuit),
         // each wire is an output once
         Err(_) => Err(Memory),

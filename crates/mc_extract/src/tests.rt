@@ -19,7 +19,7 @@ fn joined(rt: &impl Abort, alloc: Global) -> Result<OpenGraph<4>, Fail> {
     assert_eq!(rt; builder.edge(0, 1), Ok(()));
     assert_eq!(rt; builder.edge(1, 2), Ok(()));
     assert_eq!(rt; builder.angle(0, Angle::of(1)), Ok(()));
-    match builder.finish(alloc, &[1, 2]) {
+    match builder.finish(&[1, 2]) {
         Ok(graph) => Ok(graph),
         Err((_, end)) => Err(Fail::from(end)),
     }

@@ -53,14 +53,10 @@ fn push_ops(circuit: &mut CircuitBuilder<4>, at: &mut [u16], ops: &[Op]) -> Resu
 }
 
 /// The circuit with these outputs.
-fn with_outputs(
-    alloc: Global,
-    circuit: CircuitBuilder<4>,
-    out: &[u16],
-) -> Result<Circuit<4>, Memory>
+fn with_outputs(circuit: CircuitBuilder<4>, out: &[u16]) -> Result<Circuit<4>, Memory>
     ensures { IfOk result (λ made. made ≡ record circuit { outputs = out.now }) }
 {
-    match circuit.finish(alloc, out) {
+    match circuit.finish(out) {
         Ok(circuit) => Ok(circuit),
         // each wire is an output once
         Err(_) => Err(Memory),
@@ -81,7 +77,7 @@ fn circuit_on(
     let _list = g.names();
     push_ops(&mut circuit, at, g.ops())?;
     let out = wires_of(alloc, at, g.out())?;
-    with_outputs(alloc, circuit, &out)
+    with_outputs(circuit, &out)
 }
 
 /// The lowered circuit, whatever its size.

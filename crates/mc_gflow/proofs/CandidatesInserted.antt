@@ -1,10 +1,9 @@
 -- Candidates that are inserted one after another.
-use Rattle.std.specs.Prelude.{◌≡◌, ◌≢◌, ◌⊎◌, ℕ, ◌+◌, ◌*◌, ◌<◌}
-use Rattle.std.specs.Prelude.{◌≤◌, Bool, true, false, ◌||◌, nat_lt}
+use Rattle.std.specs.Prelude.{◌≡◌, ◌≢◌, ◌⊎◌, ℕ, ◌+◌, ◌<◌}
+use Rattle.std.specs.Prelude.{◌≤◌, Bool, true, false, ◌||◌}
 use Rattle.std.specs.Prelude.{List, [], ◌∷◌, ◌++◌, length, refl}
 use Rattle.std.proofs.Common.{arith, sym, ap, subst, ◌∙◌, inl, inr, length-append}
 use Rattle.std.proofs.lemmas.List.{get_or_append_left, get_or_push}
-use Rattle.std.proofs.lemmas.Bool.{le-ltb}
 use Rattle.mc_model.specs.Bits.{Bits}
 use Rattle.mc_model.specs.Graph.{OpenGraph, size, is_input}
 use Rattle.mc_model.specs.Choice.{IsLaterCandidate}
@@ -14,7 +13,7 @@ use Rattle.mc_elim.specs.Tables.{row_at}
 use Rattle.mc_elim.specs.Basis.{Inserted, count_of, columns_of}
 use Rattle.mc_elim.proofs.NoMoreThanRows.{no_more_than, room_for_one}
 use Rattle.mc_elim.proofs.BitSums.{clash, last_or_before, same_or_not, two_sides}
-use Rattle.mc_gflow.specs.Layers.{IsBefore, column_of, HoldsCandidates, CountsColumns}
+use Rattle.mc_gflow.specs.Layers.{IsBefore, column_of, HoldsCandidates}
 
 module _ (g : OpenGraph) (layer : ℕ → ℕ) (k x : ℕ) (order : ℕ → ℕ) (basis : Inserted)
     (h : HoldsCandidates g layer k x order basis) where
@@ -191,36 +190,5 @@ next_round g layer k order basis h = record {
 
 -- ---- counts
 
-pub counts_none : (n s : ℕ) (basis : Inserted) → CountsColumns n s s basis basis
-counts_none n s basis = record { rise = omega arith; most = omega arith; added = λ _ e. e }
-
-pub counts_more : (n s t u : ℕ) (a b c : Inserted) → CountsColumns n s t a b →
-    CountsColumns n t u b c → CountsColumns n s u a c
-counts_more n s t u a b c h f =
-    let x = h.rise in
-    let y = f.rise in
-    let p = h.most in
-    let q = f.most in
-    record {
-      rise = omega arith;
-      most = omega arith;
-      added = λ e no. f.added (omega arith) (h.added (omega arith) no);
-    }
-
 or_false : (a : Bool) → a || false ≡ a
 or_false a = grind arith
-
-pub counts_one : (n s t : ℕ) (before after : Inserted) → count_of after ≡ count_of before + 1 →
-    s ≤ t → t ≤ s + 2 * n → after.has_added ≡ before.has_added || nat_lt s t →
-    CountsColumns n s t before after
-counts_one n s t before after e rise most added =
-    let product : 2 * n * count_of after ≡ 2 * n * count_of before + 2 * n =
-    ap (λ (a : ℕ). 2 * n * a) e ∙ omega arith in
-    record {
-      rise = rise;
-      most = omega arith;
-      added = λ same no.
-          added
-          ∙ ap (λ (b : Bool). before.has_added || b) (le-ltb s t (omega arith))
-          ∙ or_false before.has_added ∙ no;
-    }

@@ -1,7 +1,7 @@
 -- A column that is written from a list of neighbours.
 use Rattle.std.specs.Prelude.{◌≡◌, ℕ, zero, suc, ◌+◌, ◌<◌, ◌≤◌, Bool, true, false}
 use Rattle.std.specs.Prelude.{◌&&◌, ◌||◌, nat_eq, nat_lt, List, [], ◌∷◌, length, take}
-use Rattle.std.specs.Prelude.{slice_index, replicate, refl}
+use Rattle.std.specs.Prelude.{slice_index, refl}
 use Rattle.std.proofs.Common.{arith, sym, ap, ap₂, ◌∙◌}
 use Rattle.std.proofs.lemmas.Bool.{ne_eqb, lt-ltb, eqb-true}
 use Rattle.std.proofs.lemmas.List.{take_more, take_all}
@@ -11,8 +11,6 @@ use Rattle.mc_model.specs.Numbers.{is_member, numbers_where}
 use Rattle.mc_model.specs.Signals.{IsRising, AllAbove}
 use Rattle.mc_model.specs.Graph.{Edge, joins}
 use Rattle.mc_model.proofs.NumberLists.{member_once, count-where}
-use Rattle.mc_bits.specs.Rows.{bit_of}
-use Rattle.mc_bits.proofs.RowsByBits.{no_bits}
 
 either_way : (p q r s : Bool) → (p && q) || (r && s) ≡ (s && r) || (q && p)
 either_way p q r s = grind arith
@@ -74,10 +72,6 @@ neighbour_more ns i keep old new told rise l e held step v =
     (λ s. ap (is_member (take i ns)) (eqb-true v q s) ∙ not_before ns i rise l)
     (λ s. e ∙ ap keep (sym (eqb-true v q s)))
     ∙ ap (λ (b : Bool). b && keep v) (sym (member_more ns i v l))
-
-pub no_neighbours : (n v : ℕ) (ns : List ℕ) (keep : Bits) (row : List Bool) →
-    row ≡ replicate n false → bit_of row v ≡ is_member (take 0 ns) v && keep v
-no_neighbours n v ns keep row e = ap (λ (r : List Bool). bit_of r v) e ∙ no_bits n v
 
 pub all_neighbours : (es : List Edge) (n w i v : ℕ) (ns : List ℕ) (keep b : Bool) →
     ns ≡ numbers_where (joins es w) n → length ns ≤ i → v < n →

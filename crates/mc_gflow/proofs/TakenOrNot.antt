@@ -3,7 +3,7 @@ use Rattle.std.specs.Prelude.{◌≡◌, ◌≢◌, ◌⊎◌, ℕ, zero, suc, �
 use Rattle.std.specs.Prelude.{◌≤◌, Bool, true, false, ◌&&◌, cond}
 use Rattle.std.specs.Prelude.{nat_eq, List, [], length, slice_index, slice_set, replicate, refl}
 use Rattle.std.proofs.Common.{arith, sym, ap, ap₂, subst, ◌∙◌, inl, inr, get_or-set_same}
-use Rattle.std.proofs.Common.{get_or-set_other, length-set}
+use Rattle.std.proofs.Common.{get_or-set_other}
 use Rattle.std.proofs.lemmas.Bool.{eq-eqb, ne_eqb}
 use Rattle.std.proofs.lemmas.List.Sums.{sum_by-set}
 use mathlib.Core.Path.{fun_ext}
@@ -15,12 +15,12 @@ use Rattle.mc_model.proofs.OddSums.{odd-same, odd-none}
 use Rattle.mc_bits.specs.Rows.{bit_of}
 use Rattle.mc_bits.proofs.RowsByBits.{no_bits}
 use Rattle.mc_elim.specs.Systems.{Solves, IsLeast}
-use Rattle.mc_elim.specs.Tables.{row_at, entry}
+use Rattle.mc_elim.specs.Tables.{entry}
 use Rattle.mc_elim.specs.Basis.{Inserted, count_of, columns_of, IsLeastSolution, HasSolution}
 use Rattle.mc_elim.specs.Basis.{HasNoSolution, HasOneColumn}
 use Rattle.mc_elim.proofs.BitSums.{and_comm, last_or_before, same_or_not, odd-last, odd-pick}
 use Rattle.mc_gflow.specs.Layers.{IsCorrection, HoldsLayers, TakenUpTo, IsStuck, AreAlone}
-use Rattle.mc_gflow.specs.Layers.{HasSquare, untaken, vertices_of}
+use Rattle.mc_gflow.specs.Layers.{untaken, vertices_of}
 use Rattle.mc_gflow.proofs.CandidateSets.{least_correction, correction_solves, columns_in}
 use Rattle.mc_gflow.proofs.CandidateSets.{solution_corrects}
 use Rattle.mc_gflow.proofs.LayersTaken.{Takes, same_below, same_back, correction_alike}
@@ -200,21 +200,6 @@ stuck_unsolved g layer none k sets order basis h u un e f =
         absurd (omega arith)
 
 -- ---- rows that are written
-
-pub square_stays : (n u : ℕ) (rows : List (List Bool)) (row : List Bool) → HasSquare n rows →
-    u < n → length row ≡ n → HasSquare n (slice_set rows u row)
-square_stays n u rows row h l e = record {
-  count = length-set rows u row ∙ h.count;
-  width = λ i il. elim (same_or_not i u) [
-    | inl same ↦
-        let within : u < length rows = let c = h.count in omega arith in
-        ap (λ (a : ℕ). length (row_at (slice_set rows u row) a)) same
-        ∙ ap (λ (r : List Bool). length r) (get_or-set_same rows u row [] within)
-        ∙ e
-    | inr ne ↦
-        ap (λ (r : List Bool). length r) (get_or-set_other rows u i row [] ne) ∙ h.width i il
-  ];
-}
 
 pub row_here : (rows : List (List Bool)) (u : ℕ) (row : List Bool) → u < length rows →
     entry (slice_set rows u row) u ≡ bit_of row

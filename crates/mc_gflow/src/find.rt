@@ -2,7 +2,7 @@
 
 ghost use Rattle.std.specs.Prelude.{◌≡◌, ◌≢◌, ◌<◌, ◌≤◌, ◌+◌, ◌*◌};
 ghost use Rattle.std.specs.Prelude.{ℕ, [], true, false, IfOk, length};
-ghost use Rattle.std.specs.Prelude.{slice_index, slice_index_or, cond};
+ghost use Rattle.std.specs.Prelude.{slice_index, cond};
 ghost use Rattle.mc_model.specs.Graph.{size, is_output};
 ghost use Rattle.mc_model.specs.Choice.{IsChosenFlow};
 ghost use Rattle.mc_elim.specs.Tables.{entry};

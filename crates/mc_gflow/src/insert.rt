@@ -1,6 +1,6 @@
 //! Candidates that are inserted into the basis.
 
-ghost use Rattle.std.specs.Prelude.{◌≡◌, ◌<◌, ◌≤◌, ◌+◌, length, slice_index};
+ghost use Rattle.std.specs.Prelude.{◌≡◌, ◌<◌, ◌+◌, length, slice_index};
 ghost use Rattle.mc_model.specs.Graph.{size};
 ghost use Rattle.mc_gflow.specs.Layers.{HoldsCandidates, CountsColumns};
 

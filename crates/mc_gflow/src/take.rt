@@ -1,9 +1,8 @@
 //! Vertices that are taken into a layer, and those that can't be.
 
-ghost use Rattle.std.specs.Prelude.{◌≡◌, ◌<◌, ◌≤◌, ◌+◌, ◌&&◌, ◌⊎◌};
-ghost use Rattle.std.specs.Prelude.{ℕ, true, false, length, nat_eq};
-ghost use Rattle.std.specs.Prelude.{slice_index, slice_set};
-ghost use Rattle.mc_model.specs.Bits.{◌⊻◌};
+ghost use Rattle.std.specs.Prelude.{◌≡◌, ◌<◌, ◌≤◌, ◌+◌};
+ghost use Rattle.std.specs.Prelude.{ℕ, true, false, length};
+ghost use Rattle.std.specs.Prelude.{slice_index};
 ghost use Rattle.mc_model.specs.Graph.{size};
 ghost use Rattle.mc_bits.specs.Rows.{bit_of};
 ghost use Rattle.mc_elim.specs.Tables.{entry};

@@ -53,7 +53,7 @@ fn graph(
             };
         }
     }
-    match builder.finish(alloc, outputs) {
+    match builder.finish(outputs) {
         Ok(graph) => Some(graph),
         Err(_) => None,
     }

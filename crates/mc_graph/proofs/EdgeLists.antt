@@ -1,5 +1,5 @@
 -- The edges of a graph are those of each vertex to the vertices of higher number.
-use Rattle.std.proofs.Common.{◌≡◌, ℕ, zero, suc, ◌+◌, ◌<◌, ◌≤◌, count_by}
+use Rattle.std.proofs.Common.{◌≡◌, ℕ, zero, suc, ◌+◌, ◌≤◌, count_by}
 use Rattle.std.proofs.Common.{length-append, Bool, true, false, cond, ◌&&◌, map, List}
 use Rattle.std.proofs.Common.{[], ◌∷◌, ◌++◌, length, refl, sym, ◌∙◌, ap, ap₂, append-nil, arith}
 use Rattle.std.specs.Prelude.{nat_lt, filter, flat_map, slice_index_or}

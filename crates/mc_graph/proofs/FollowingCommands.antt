@@ -3,25 +3,23 @@ use Rattle.std.proofs.Common.{◌≡◌, ℕ, zero, suc, ◌+◌, ◌-◌, ◌<�
 use Rattle.std.proofs.Common.{◌&&◌}
 use Rattle.std.proofs.Common.{◌||◌, not, map, List, [], ◌∷◌, ◌++◌, refl, sym, ◌∙◌, ap, ap₂}
 use Rattle.std.proofs.Common.{append_assoc, append-nil, arith}
-use Rattle.std.specs.Prelude.{⊤, nat_eq, filter, flat_map, is_none}
+use Rattle.std.specs.Prelude.{⊤, nat_eq, filter, is_none}
 use Rattle.std.specs.List.{AllByRecursion}
-use Rattle.std.proofs.lemmas.Bool.{eq-eqb, and_parts, not-true, cases_eq, cases_Bool, lt-ltb}
+use Rattle.std.proofs.lemmas.Bool.{cases_eq, cases_Bool, lt-ltb}
 use Rattle.std.proofs.lemmas.Bool.{true≢false}
 use mathlib.Core.Path.{subst}
 use mathlib.Core.Logic.{inl, inr}
 use Rattle.mc_model.specs.Numbers.{numbers_from, numbers_where, is_member}
 use Rattle.mc_model.specs.Bits.{Bits, all_zero, replaced}
-use Rattle.mc_model.specs.Signals.{Signal, signal_of, IsRising}
+use Rattle.mc_model.specs.Signals.{Signal, IsRising}
 use Rattle.mc_model.specs.Pattern.{Command, Prep, Ent, Meas, FixX, FixZ}
 use Rattle.mc_model.specs.Valid.{prepared, measured, AllDone, IsLive, SignalFits, FitsBehind}
 use Rattle.mc_model.specs.Valid.{IsValid, IsValidPattern}
 use Rattle.mc_model.specs.Translation.{preparations}
-use Rattle.mc_model.specs.Graph.{Edge, OpenGraph, size, is_output, base_angle, odd_neighbourhood}
+use Rattle.mc_model.specs.Graph.{Edge, OpenGraph, size, is_output, base_angle}
 use Rattle.mc_model.specs.Graph.{EdgesRise, IsOpenGraph, entanglings, graph_state, bare_measurement}
 use Rattle.mc_model.specs.Graph.{fixed_corrections, zero_pattern}
-use Rattle.mc_model.specs.Flow.{IsFlow, depth_of}
-use Rattle.mc_model.specs.Made.{measuring_order, corrected_measurement, flow_pattern}
-use Rattle.mc_model.proofs.BitLemmas.{not_not, replaced_same, replaced_other}
+use Rattle.mc_model.proofs.BitLemmas.{not_not, replaced_other}
 use Rattle.mc_model.proofs.PreparationLemmas.{measured-preparations}
 use Rattle.mc_model.proofs.ValidLemmas.{measured-append, prepared-append, next_measured}
 use Rattle.mc_model.proofs.ValidLemmas.{none_measured, valid_with, nothing_valid}

@@ -1,6 +1,6 @@
 -- The commands of a graph, as loops append them.
 use Rattle.std.proofs.Common.{◌≡◌, ℕ, zero, suc, ◌+◌, ◌-◌, ◌<◌, ◌≤◌, Bool, true, false, cond, map}
-use Rattle.std.proofs.Common.{List, [], ◌∷◌, ◌++◌, length, refl, sym, ◌∙◌, ap, ap₂, append_assoc}
+use Rattle.std.proofs.Common.{List, [], ◌∷◌, ◌++◌, length, refl, sym, ◌∙◌, ap, append_assoc}
 use Rattle.std.proofs.Common.{append-nil, arith, take}
 use Rattle.std.specs.Prelude.{nat_lt, filter, flat_map, slice_index}
 use Rattle.std.proofs.lemmas.List.{map-append, take_more}

@@ -1,8 +1,8 @@
 -- How many edges and fixed corrections an open graph has at most.
 use Rattle.std.proofs.Common.{◌≡◌, ℕ, zero, suc, ◌+◌, ◌-◌, ◌*◌, ◌<◌, ◌≤◌, Bool, true, false, cond}
-use Rattle.std.proofs.Common.{◌&&◌, not, List, [], ◌∷◌, ◌++◌, length, map, ◌∙◌, ap, length-append}
+use Rattle.std.proofs.Common.{not, List, [], ◌∷◌, ◌++◌, length, map, ◌∙◌, ap, length-append}
 use Rattle.std.proofs.Common.{arith, inl, inr}
-use Rattle.std.specs.Prelude.{nat_eq, flat_map}
+use Rattle.std.specs.Prelude.{flat_map}
 use Rattle.std.specs.List.{AllByRecursion}
 use Rattle.std.proofs.lemmas.List.{length-map}
 use Rattle.std.proofs.lemmas.List.Elements.{recursion_from_All}
@@ -10,17 +10,14 @@ use Rattle.std.proofs.lemmas.Nat.{mul-le}
 use Rattle.std.proofs.Math.Nat.{mul-le-mul_right}
 use Rattle.mc_model.specs.Bits.{Bits}
 use Rattle.mc_model.specs.Numbers.{numbers_from, numbers_where}
-use Rattle.mc_model.specs.Signals.{one_signal, signal_of}
+use Rattle.mc_model.specs.Signals.{one_signal}
 use Rattle.mc_model.specs.Pattern.{Command, Ent, FixX, FixZ}
 use Rattle.mc_model.specs.Translation.{preparations}
-use Rattle.mc_model.specs.Graph.{Edge, OpenGraph, size, odd_neighbourhood, EdgesRise, IsBehind}
+use Rattle.mc_model.specs.Graph.{Edge, OpenGraph, size, EdgesRise, IsBehind}
 use Rattle.mc_model.specs.Graph.{IsOpenGraph, entanglings, graph_state, bare_measurement, fixed_at}
 use Rattle.mc_model.specs.Graph.{corrections_at, fixed_corrections, zero_pattern, is_output}
-use Rattle.mc_model.specs.Flow.{depth_of}
-use Rattle.mc_model.specs.Made.{measuring_order, corrected_measurement, flow_pattern}
 use Rattle.mc_model.proofs.PreparationLemmas.{length-preparations}
 use Rattle.mc_model.proofs.NumberLists.{length-numbers_from, numbers_where-last}
-use Rattle.mc_model.proofs.AnyOrder.{same_length}
 use Rattle.mc_graph.proofs.ListedAll.{all-weaker}
 
 pub at_most_one : {A : Type 0} (b : Bool) (a : A) → length (cond b (a ∷ []) []) ≤ 1

@@ -105,11 +105,6 @@ set_at labels q k l within = elim (cases_eq k q) [
   | inr ne ↦ rw (ne_eqb k q ne) (get_or-set_other labels q k l no_label ne)
 ]
 
--- what a label has beside what is added where two numbers are one
-add_where : (b x y : Bool) → x ⊻ (b && y) ≡ cond b (x ⊻ y) x
-add_where true x y = refl
-add_where false x y = xor_false x
-
 module _ {half : ℕ} (labels : List (Label half)) (q k : ℕ) (within : q < length labels) where
   constants_angle : (x z : Bool) →
       (label_at (with_constants labels q x z) k).angle ≡ (label_at labels k).angle

@@ -1,12 +1,12 @@
 //! Building open graphs.
 
-ghost use Rattle.std.specs.Prelude.{◌≡◌, ◌↔◌, ℕ, ◌<◌, ◌≤◌, [], All, length, replicate, Err, Some};
+ghost use Rattle.std.specs.Prelude.{◌≡◌, ◌↔◌, ℕ, ◌<◌, ◌≤◌, All, Err, Some};
 ghost use Rattle.std.specs.Prelude.{None, OnOk, IfOk, OnErr, IfErr, IsErrAnd, IsTrue, true};
 ghost use Rattle.std.specs.List.{list_any};
 ghost use Rattle.mc_model.specs.Names.{place_of};
 ghost use Rattle.mc_model.specs.Numbers.{numbers_from};
 ghost use Rattle.mc_model.specs.Steps.{is_permitted};
-ghost use Rattle.mc_model.specs.Graph.{size, not_fixed, fixed_at, joins as is_joined};
+ghost use Rattle.mc_model.specs.Graph.{size, fixed_at};
 ghost use Rattle.mc_graph.specs.Rules.{has_angle as is_measured, edge_rule as broken_edge};
 ghost use Rattle.mc_graph.specs.Rules.{angle_rule as broken_angle, fix_rule as broken_fix};
 ghost use Rattle.mc_graph.specs.Rules.{output_rule as broken_outputs};
@@ -369,11 +369,7 @@ impl<const H: usize> GraphBuilder<H> {
     /// The graph with these outputs. `Rule` gives the least rule that they break: 1, an output is no vertex; 4, an output has an
     /// angle; 5, an output is listed twice; 6, a vertex without an angle is not listed; 8, a vertex with an angle has a fixed
     /// correction. A refusal, `Memory` last, hands the builder back as it was.
-    pub fn finish(
-        self,
-        alloc: Global,
-        outputs: &[u16],
-    ) -> Result<OpenGraph<H>, (GraphBuilder<H>, GraphEnd)>
+    pub fn finish(self, outputs: &[u16]) -> Result<OpenGraph<H>, (GraphBuilder<H>, GraphEnd)>
         ensures graph { IfOk result (λ graph. graph ≡ with_outputs self.entry outputs.now) }
         ensures allowed { OnOk result (broken_outputs self.entry outputs.now ≡ None) }
         ensures rule { (n : ℕ) → IsErrAnd result (λ refused. refused.1 ≡ GraphEnd.Rule n) ↔
@@ -385,6 +381,7 @@ impl<const H: usize> GraphBuilder<H> {
         if let Some(rule) = self.output_rule(outputs) {
             return Err((self, GraphEnd::Rule(rule)));
         }
+        let alloc = *self.labels.allocator();
         let Ok(outs) = outputs.to_vec(alloc) else {
             return Err((self, GraphEnd::Memory));
         };

@@ -3,7 +3,7 @@
 ghost use Rattle.std.specs.Prelude.{◌≡◌, ◌↔◌, ◌<◌, [], ◌∷◌, ◌++◌, true, false, length, Err, Some};
 ghost use Rattle.std.specs.Prelude.{slice_get, OnOk, OnErr, IfSome, IfNone, None};
 ghost use Rattle.mc_graph.specs.RowLists.{has_row as has_line, row_at, HaveOwnVertices};
-ghost use Rattle.mc_graph.specs.Flows.{FlowLine, layer_in};
+ghost use Rattle.mc_graph.specs.Flows.{layer_in};
 
 use crate::end::RowEnd;
 use mc_signal::QSet;

@@ -1,6 +1,6 @@
 //! Which vertices are joined, while a graph is made.
 
-ghost use Rattle.std.specs.Prelude.{◌≡◌, ◌≢◌, ℕ, ◌+◌, ◌*◌, ◌<◌, ◌≤◌, [], ◌++◌, IfOk, false};
+ghost use Rattle.std.specs.Prelude.{◌≡◌, ◌≢◌, ℕ, ◌+◌, ◌*◌, ◌<◌, ◌≤◌, IfOk, false};
 ghost use Rattle.std.specs.Prelude.{length, map, nat_eq, slice_index_or};
 ghost use Rattle.mc_model.specs.Numbers.{numbers_from, numbers_where};
 ghost use Rattle.mc_model.specs.Bits.{◌⊻◌, same_pair};

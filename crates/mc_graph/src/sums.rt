@@ -1,7 +1,7 @@
 //! What the commands of a pattern make of its graph.
 
-ghost use Rattle.std.specs.Prelude.{◌≡◌, ◌≢◌, ℕ, ◌*◌, ◌%◌, ◌<◌, ◌≤◌, [], ◌∷◌, All, IfOk};
-ghost use Rattle.std.specs.Prelude.{IsTrue, cond, false, length, map, slice_set};
+ghost use Rattle.std.specs.Prelude.{◌≡◌, ℕ, ◌*◌, ◌%◌, ◌<◌, [], ◌∷◌, All, IfOk};
+ghost use Rattle.std.specs.Prelude.{cond, false, length, map};
 ghost use Rattle.mc_model.specs.Bits.{◌⊻◌};
 ghost use Rattle.mc_model.specs.Phase.{negated, measured_angle};
 ghost use Rattle.mc_model.specs.StandardForm.{is_edge};

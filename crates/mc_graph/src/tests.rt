@@ -33,12 +33,8 @@ fn with_an_edge(rt: &impl Abort, alloc: Global) -> Result<GraphBuilder<4>, Fail>
     Ok(builder)
 }
 
-fn finished(
-    builder: GraphBuilder<4>,
-    alloc: Global,
-    outputs: &[u16],
-) -> Result<OpenGraph<4>, GraphEnd> {
-    match builder.finish(alloc, outputs) {
+fn finished(builder: GraphBuilder<4>, outputs: &[u16]) -> Result<OpenGraph<4>, GraphEnd> {
+    match builder.finish(outputs) {
         Ok(graph) => Ok(graph),
         Err((_, end)) => Err(end),
     }
@@ -49,7 +45,7 @@ fn builds_a_graph(rt: HostRuntime) -> Result<(), Fail> {
     let alloc = rt.alloc();
     let mut builder = with_an_edge(&rt, alloc)?;
     assert_eq!(rt; builder.fix_z(1), Ok(()));
-    let graph = finished(builder, alloc, &[1])?;
+    let graph = finished(builder, &[1])?;
     assert_eq!(rt; (graph.len(), graph.inputs()), (2, 1));
     assert_eq!(rt; graph.outputs(), [1].as_slice());
     if graph.len() == 2 {
@@ -69,7 +65,7 @@ fn refuses_a_fixed_correction_inside(rt: HostRuntime) -> Result<(), Fail> {
     let alloc = rt.alloc();
     let mut builder = with_an_edge(&rt, alloc)?;
     assert_eq!(rt; builder.fix_x(0), Ok(()));
-    match finished(builder, alloc, &[1]) {
+    match finished(builder, &[1]) {
         Ok(_) => assert!(rt; false),
         Err(end) => assert_eq!(rt; end, GraphEnd::Rule(8)),
     }
@@ -97,7 +93,7 @@ fn corrected<const H: usize>(rt: &impl Abort, alloc: Global) -> Result<Pattern<H
         t: Signal::empty(alloc),
     };
     assert_eq!(rt; builder.push(measure), Ok(()));
-    match builder.finish(alloc, &[1]) {
+    match builder.finish(&[1]) {
         Ok(pattern) => Ok(pattern),
         Err((_, end)) => Err(Fail::from(end)),
     }
@@ -142,7 +138,7 @@ fn makes_the_pattern_without_a_flow(rt: HostRuntime) -> Result<(), Fail> {
     let alloc = rt.alloc();
     let mut builder = with_an_edge(&rt, alloc)?;
     assert_eq!(rt; builder.fix_z(1), Ok(()));
-    let graph = finished(builder, alloc, &[1])?;
+    let graph = finished(builder, &[1])?;
     assert_eq!(rt; graph.edge_count(), 1);
     let pattern = zero_pattern(alloc, &graph)?;
     match pattern.commands() {
@@ -162,7 +158,7 @@ fn makes_the_pattern_without_a_flow(rt: HostRuntime) -> Result<(), Fail> {
 #[test]
 fn orders_by_falling_layer(rt: HostRuntime) -> Result<(), Fail> {
     let alloc = rt.alloc();
-    let graph = finished(with_an_edge(&rt, alloc)?, alloc, &[1])?;
+    let graph = finished(with_an_edge(&rt, alloc)?, &[1])?;
     let mut flow = GFlow::new(alloc, 1);
     assert_eq!(rt; flow.push(0, 1, one_member(alloc, 1)?), Ok(()));
     let order = order_of(alloc, &graph, &flow)?;

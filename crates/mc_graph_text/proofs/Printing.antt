@@ -5,7 +5,7 @@ use Rattle.std.proofs.Common.{cond, List, [], ◌∷◌, ◌++◌, length, map, 
 use Rattle.std.proofs.Common.{refl, sym, ap, ap₂, ◌∙◌, append_assoc, arith, inl, inr}
 use Rattle.std.specs.Prelude.{filter, nat_lt}
 use Rattle.std.specs.List.{flat_map, list_any}
-use Rattle.std.proofs.lemmas.Bool.{cases_eq, lt-ltb, le-ltb}
+use Rattle.std.proofs.lemmas.Bool.{cases_eq}
 use Rattle.std.proofs.lemmas.Grind.{flat_map-append}
 use Rattle.std.proofs.lemmas.List.{append-nil, map-append, take_more, get_or-drop, length-drop}
 use Rattle.std.proofs.lemmas.List.Elements.{filter-append}
@@ -121,30 +121,6 @@ edges_to-append : (v : ℕ) (ws us : List ℕ) →
 edges_to-append v ws us =
     ap (map (edge v)) (filter-append (nat_lt v) ws us)
     ∙ map-append (edge v) (filter (nat_lt v) ws) (filter (nat_lt v) us)
-
-pub edge_up : (names : List Name) (v w : ℕ) → v < w →
-    text_of (map (edge_line names) (edges_to v (w ∷ []))) ≡ line_text (edge_line names (edge v w))
-edge_up names v w lt = rw (lt-ltb v w lt) (one_line (edge_line names (edge v w)))
-
-pub no_edge_up : (names : List Name) (v w : ℕ) → w ≤ v →
-    text_of (map (edge_line names) (edges_to v (w ∷ []))) ≡ []
-no_edge_up names v w le = rw (le-ltb v w le) refl
-
-pub edges_more : (start text new : List ℕ) (names : List Name) (v w : ℕ) (ws : List ℕ) (i : ℕ) →
-    w ≡ get_or ws i w → i < length ws →
-    text ≡ start ++ text_of (map (edge_line names) (edges_to v (take i ws))) →
-    new ≡ text ++ text_of (map (edge_line names) (edges_to v (w ∷ []))) →
-    new ≡ start ++ text_of (map (edge_line names) (edges_to v (take (i + 1) ws)))
-edges_more start text new names v w ws i is lt e f =
-    let more : take (i + 1) ws ≡ take i ws ++ w ∷ [] =
-    take_more ws i w lt ∙ ap (λ u. take i ws ++ u ∷ []) (sym is) in
-    let all : edges_to v (take (i + 1) ws) ≡ edges_to v (take i ws) ++ edges_to v (w ∷ []) =
-    ap (edges_to v) more ∙ edges_to-append v (take i ws) (w ∷ []) in
-    behind_lines start text new (map (edge_line names) (edges_to v (take i ws)))
-    (map (edge_line names) (edges_to v (w ∷ []))) e f
-    ∙ ap (λ ls. start ++ text_of ls)
-    (sym (ap (map (edge_line names)) all
-    ∙ map-append (edge_line names) (edges_to v (take i ws)) (edges_to v (w ∷ []))))
 
 one_up : (v w : ℕ) (b : Bool) →
     edges_to v (cond b (w ∷ []) []) ≡ cond (nat_lt v w && b) (edge v w ∷ []) []

@@ -21,14 +21,14 @@ fn star(rt: &impl Abort, alloc: Global) -> Result<GraphBuilder<4>, Fail> {
     Ok(builder)
 }
 
-fn finished(rt: &impl Abort, builder: GraphBuilder<4>, alloc: Global) -> OpenGraph<4> {
-    builder.finish(alloc, &[2, 1]).ok().expect(rt, "a graph")
+fn finished(rt: &impl Abort, builder: GraphBuilder<4>) -> OpenGraph<4> {
+    builder.finish(&[2, 1]).ok().expect(rt, "a graph")
 }
 
 #[test]
 fn prints_graphs(rt: HostRuntime) -> Result<(), Fail> {
     let alloc = rt.alloc();
-    let graph = finished(&rt, star(&rt, alloc)?, alloc);
+    let graph = finished(&rt, star(&rt, alloc)?);
     let text = print_graph(alloc, &graph)?;
     let want = "graph 1\nin a\nn b\nn c\ne a b\ne a c\nm a 7\nout c b\nend\n";
     assert_eq!(rt; text.as_slice(), want.as_bytes());
@@ -36,7 +36,7 @@ fn prints_graphs(rt: HostRuntime) -> Result<(), Fail> {
     assert_eq!(rt; builder.fix_z(2), Ok(()));
     assert_eq!(rt; builder.fix_x(2), Ok(()));
     assert_eq!(rt; builder.fix_z(1), Ok(()));
-    let graph = finished(&rt, builder, alloc);
+    let graph = finished(&rt, builder);
     let text = print_graph(alloc, &graph)?;
     let want = "graph 2\nin a\nn b\nn c\ne a b\ne a c\nm a 7\nout c b\nz b\nx c\nz c\nend\n";
     assert_eq!(rt; text.as_slice(), want.as_bytes());

@@ -19,14 +19,13 @@ use std::alloc::Global;
 /// The graph with outputs that break no rule.
 fn finished<const H: usize>(
     graph: GraphBuilder<H>,
-    alloc: Global,
     outputs: &[u16],
 ) -> Result<OpenGraph<H>, TextEnd>
     requires { output_rule graph outputs.now ≡ None }
     ensures graph { IfOk result (λ built. built ≡ with_outputs graph.entry outputs.now) }
     ensures memory { OnErr result (result ≡ Err TextEnd.Memory) }
 {
-    match graph.finish(alloc, outputs) {
+    match graph.finish(outputs) {
         Ok(graph) => Ok(graph),
         Err(_) => Err(TextEnd::Memory),
     }
@@ -60,5 +59,5 @@ pub fn read_graph<const H: usize>(
     // the proof needs that the names are distinct
     let _count = graph.names().len();
     graph.set_inputs(reader.inputs);
-    finished(graph, alloc, reader.outputs.as_slice())
+    finished(graph, reader.outputs.as_slice())
 }

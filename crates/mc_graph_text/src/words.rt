@@ -10,7 +10,7 @@ ghost use Rattle.mc_model.specs.Steps.{is_permitted};
 ghost use Rattle.mc_text.specs.Rules.{new_name, known_name, angle_word, number_in, AreNumbers};
 ghost use Rattle.mc_text.specs.Stops.{IsStop};
 ghost use Rattle.mc_graph.specs.Building.{with_vertex, with_edge, with_angle};
-ghost use Rattle.mc_graph.specs.Rules.{has_angle as is_measured, angle_rule};
+ghost use Rattle.mc_graph.specs.Rules.{angle_rule};
 ghost use Rattle.mc_graph_text.specs.Value.{Spelled};
 ghost use Rattle.mc_graph_text.specs.Judge.{still_name, other_name, output_name, fixed_name};
 ghost use Rattle.mc_graph_text.specs.Kept.{graph_so_far, IsFirst, Lists, with_x, with_z};

@@ -1,6 +1,6 @@
 //! A source and a sink in memory that never fail.
 
-ghost use Rattle.std.specs.Prelude.{◌≡◌, ℕ, ◌≤◌, [], List, Bool, false, IfOk, Some};
+ghost use Rattle.std.specs.Prelude.{◌≡◌, ℕ, [], List, false, IfOk, Some};
 ghost use Rattle.std.proofs.Common.{arith};
 ghost use Rattle.mc_io.specs.Honest.{Kept, told, HonestReads, HonestWrites};
 

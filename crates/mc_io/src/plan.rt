@@ -1,7 +1,7 @@
 //! Which calls fail, by their numbers.
 
-ghost use Rattle.std.specs.Prelude.{◌≡◌, ◌↔◌, ◌+◌, ◌-◌, ◌^◌, min, IsTrue};
-ghost use Rattle.mc_io.specs.Plan.{Plan, plan_of, plan_after, last_call, IsDueToFail};
+ghost use Rattle.std.specs.Prelude.{◌≡◌, ◌↔◌, ◌-◌, IsTrue};
+ghost use Rattle.mc_io.specs.Plan.{Plan, plan_of, plan_after, IsDueToFail};
 
 use crate::end::Failed;
 use std::marker::Model;

@@ -1,6 +1,6 @@
 //! Columns of the vertices behind a layer, and the basis of them.
 
-ghost use Rattle.std.specs.Prelude.{◌≡◌, ◌<◌, ◌≤◌, ◌&&◌, ℕ, IfOk, [], length, take};
+ghost use Rattle.std.specs.Prelude.{◌≡◌, ◌<◌, ◌≤◌, ◌&&◌, ℕ, IfOk, [], length};
 ghost use Rattle.mc_model.specs.Graph.{size};
 ghost use Rattle.mc_graph.specs.Flows.{layer_in};
 ghost use Rattle.mc_bits.specs.Rows.{bit_of};

@@ -1,6 +1,6 @@
 //! The least sets that keep vertices above layers.
 
-ghost use Rattle.std.specs.Prelude.{◌≡◌, ◌<◌, ◌≤◌, ◌+◌, ◌&&◌, IfOk, OnOk, length, All, not, nat_lt, ℕ};
+ghost use Rattle.std.specs.Prelude.{◌≡◌, ◌<◌, ◌≤◌, ◌+◌, ◌&&◌, IfOk, OnOk, All, not, nat_lt, ℕ};
 ghost use Rattle.mc_model.specs.Numbers.{is_member};
 ghost use Rattle.mc_model.specs.Signals.{IsRising};
 ghost use Rattle.mc_model.specs.Graph.{size, is_output};

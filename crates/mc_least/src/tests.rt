@@ -29,7 +29,7 @@ fn path(rt: &impl Abort, alloc: Global) -> Result<OpenGraph<4>, Fail> {
         assert_eq!(rt; builder.edge(q - 1, q), Ok(()));
         assert_eq!(rt; builder.angle(q - 1, Angle::of(0)), Ok(()));
     }
-    Ok(builder.finish(alloc, &[3]).ok().expect(rt, "a graph"))
+    Ok(builder.finish(&[3]).ok().expect(rt, "a graph"))
 }
 
 fn find<L: Ledger>(alloc: Global, blank: Blank, g: &OpenGraph<4>) -> Result<Found, Memory>

@@ -1,6 +1,5 @@
 -- Standing further on in a text.
-use Rattle.std.proofs.Common.{◌≡◌, ℕ, zero, suc, ◌+◌, List, [], ◌∷◌, refl, ap, ◌∙◌, arith}
-use Rattle.mc_lex.specs.Lines.{Line}
+use Rattle.std.proofs.Common.{◌≡◌, ℕ, zero, suc, ◌+◌, refl, ap, ◌∙◌, arith}
 use Rattle.mc_lex.specs.Left.{Left, on_first, passed, tokens_on, lines_on, IsFurther}
 
 pub further-same : (left : Left) → IsFurther left left
@@ -81,18 +80,3 @@ pub further-read : (left old mid new : Left) → IsFurther left old
     → mid ≡ on_first old.later old.last → IsFurther mid new → IsFurther left new
 further-read left old mid new f e g =
     further-further left mid new (further-line left old mid e f) g
-
-line_end_kept : (lines : List Line) (left : Left) → (on_first lines left.last).last ≡ left.last
-line_end_kept [] left = refl
-line_end_kept (line ∷ lines) left = refl
-
-lines_end_kept : (n : ℕ) (left : Left) → (lines_on n left).last ≡ left.last
-lines_end_kept zero left = refl
-lines_end_kept (suc n) left =
-    line_end_kept (lines_on n left).later (lines_on n left) ∙ lines_end_kept n left
-
--- the end place stays
-pub further-end : (left right : Left) → IsFurther left right → right.last ≡ left.last
-further-end left right f =
-    ap (λ (l : Left). l.last) f.stands ∙ end_kept f.tokens (lines_on f.lines left)
-    ∙ lines_end_kept f.lines left

@@ -1,5 +1,6 @@
 pub mod Steps
 pub mod Firsts
+pub mod LinesInParts
 pub mod Spots
 pub mod Order
 pub mod Ends

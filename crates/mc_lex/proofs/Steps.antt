@@ -1,48 +1,14 @@
 -- How lines and tokens go on.
-use Rattle.std.proofs.Common.{◌≡◌, ℕ, suc, ◌+◌, ◌<◌, ◌≤◌, List, [], ◌∷◌, Bool, true, false, not}
-use Rattle.std.proofs.Common.{length, take, drop, refl, arith}
+use Rattle.std.proofs.Common.{◌≡◌, ℕ, suc, ◌+◌, List, [], ◌∷◌, Bool, true, false, not}
+use Rattle.std.proofs.Common.{take, drop, refl, arith}
 use Rattle.std.specs.List.{prefix_len}
 use Rattle.std.proofs.lemmas.Bool.Decides.{nat_tests}
 use Rattle.mc_lex.specs.Bytes.{is_feed, is_blank, is_word_byte}
-use Rattle.mc_lex.specs.Lines.{word, bad, starts_word, tokens, parts_of}
+use Rattle.mc_lex.specs.Lines.{word, bad, starts_word, tokens}
 use Rattle.mc_lex.specs.First.{starts_blank}
 
 abbrev pub feed_len : List ℕ → ℕ
 feed_len text = prefix_len (λ b. not (is_feed b)) text
-
-abbrev IsFirstPart : List ℕ → Type 0
-IsFirstPart text =
-    parts_of text ≡ take (feed_len text) text ∷ parts_of (drop (feed_len text + 1) text)
-
-parts_step : (b : ℕ) (bs : List ℕ) (t : Bool) → is_feed b ≡ t
-    → feed_len (b ∷ bs) < length (b ∷ bs) → (feed_len bs < length bs → IsFirstPart bs)
-    → IsFirstPart (b ∷ bs)
-parts_step b bs true e lt rest = rw e refl
-parts_step b bs false e lt rest =
-    let k : 1 + feed_len bs ≡ suc (feed_len bs) = omega arith in
-    let m : suc (feed_len bs) + 1 ≡ suc (feed_len bs + 1) = omega arith in
-    let lt' = rw e at lt in
-    let r = rest (omega arith) in
-    rw (e, k, m, r) refl
-
--- the first part of a text, up to its line feed
-pub parts-first : (text : List ℕ) → feed_len text < length text → IsFirstPart text
-parts-first [] lt = absurd (omega arith)
-parts-first (b ∷ bs) lt = parts_step b bs (is_feed b) refl lt (parts-first bs)
-
-last_step : (b : ℕ) (bs : List ℕ) (t : Bool) → is_feed b ≡ t
-    → length (b ∷ bs) ≤ feed_len (b ∷ bs) → (length bs ≤ feed_len bs → parts_of bs ≡ bs ∷ [])
-    → parts_of (b ∷ bs) ≡ (b ∷ bs) ∷ []
-last_step b bs true e le rest = let le' = rw e at le in absurd (omega arith)
-last_step b bs false e le rest =
-    let le' = rw e at le in
-    let r = rest (omega arith) in
-    rw (e, r) refl
-
--- a text with no line feed is one part
-pub parts-last : (text : List ℕ) → length text ≤ feed_len text → parts_of text ≡ text ∷ []
-parts-last [] le = refl
-parts-last (b ∷ bs) le = last_step b bs (is_feed b) refl le (parts-last bs)
 
 abbrev blanks : List ℕ → ℕ
 blanks bytes = prefix_len is_blank bytes

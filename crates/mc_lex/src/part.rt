@@ -1,15 +1,17 @@
 //! Lines, and the tokens of a line one by one.
 
-ghost use Rattle.std.specs.Prelude.{◌≡◌, ℕ, ◌+◌, ◌^◌, ◌<◌, ◌≤◌, [], length, IfSome, IfNone, false};
+ghost use Rattle.std.specs.Prelude.{◌≡◌, ◌+◌, ◌^◌, ◌<◌, ◌≤◌, ◌||◌, [], length};
+ghost use Rattle.std.specs.Prelude.{IfSome, IfNone, false};
 ghost use Rattle.mc_model.specs.Limits.{most_bytes};
-ghost use Rattle.mc_lex.specs.Lines.{tokens, lines_from, with_items, end_of};
-ghost use Rattle.mc_lex.specs.First.{starts_blank};
-ghost use Rattle.mc_lex.specs.Parts.{tokens_in, IsFirst, IsFirstLine};
+ghost use Rattle.mc_lex.specs.Bytes.{is_feed, is_hash};
+ghost use Rattle.mc_lex.specs.Lines.{lines_from, starts_word, end_of};
+ghost use Rattle.mc_lex.specs.First.{starts_blank, starts_seen};
+ghost use Rattle.mc_lex.specs.Parts.{behind_feed, later_lines, tokens_in, IsFirst, IsFirstLine};
 
-use crate::bytes::{blank_len, is_word_byte, line_len, visible_len, word_len};
+use crate::bytes::{blank_len, line_len, word_len};
 use crate::token::{Token, Word};
 
-/// A part of a line, the line's number, and the column where the part begins.
+/// What is left of a text, and the line and the column where it begins.
 #[derive(Clone, Copy)]
 pub(crate) struct Part<'a> {
     pub(crate) bytes: &'a [u8],
@@ -17,48 +19,80 @@ pub(crate) struct Part<'a> {
     pub(crate) column: u32,
 }
 
-/// What stands before a comment in the first line, and the text behind that line.
-fn first_line(text: &[u8]) -> (&[u8], &[u8])
-    requires { 0 < length text.now }
-    ensures lines { (n : ℕ) → lines_from n text.now
-        ≡ with_items n (tokens n 1 result.0.now) (lines_from (n + 1) result.1.now) }
-    ensures rest { length result.1.now < length text.now }
-    ensures part { length result.0.now ≤ length text.now }
+/// The text behind the first line.
+fn behind_line(text: &[u8]) -> &[u8]
+    ensures behind { result.now ≡ behind_feed text.now }
+    ensures shorter { 0 < length text.now → length result.now < length text.now }
+    ensures within { length result.now ≤ length text.now }
 {
-    let (line, rest) = text.split_at(line_len(text));
-    let (visible, _) = line.split_at(visible_len(line));
+    let (_, rest) = text.split_at(line_len(text));
     match rest {
-        [] => (visible, rest),
-        [_, after @ ..] => (visible, after),
+        [] => rest,
+        [_, after @ ..] => after,
     }
 }
 
-/// The first line with a token, and the text behind it. The text begins with the line of this
-/// number.
-pub(crate) fn find_line(number: u32, text: &[u8]) -> Option<(Part<'_>, &[u8])>
-    requires { number + length text.now < 2 ^ 32 }
-    ensures none { IfNone result (lines_from number text.now ≡ []) }
-    ensures found { IfSome result (λ r. IsFirstLine number text.now r.0 r.1.now) }
+/// Whether a byte ends what is read of a line: a line feed, or the `#` of a comment.
+fn is_end(b: u8) -> bool
+    ensures { result ≡ (is_feed b || is_hash b) }
 {
-    let mut line = number;
-    let mut rest = text;
-    while !rest.is_empty() {
-        let (bytes, after) = first_line(rest);
-        if blank_len(bytes) < bytes.len() {
-            let part = Part {
-                bytes,
+    b == b'\n' || b == b'#'
+}
+
+/// Whether a byte stands in front that is read.
+fn is_seen(bytes: &[u8]) -> bool
+    ensures { result ≡ starts_seen bytes.now }
+{
+    match bytes {
+        [] => false,
+        [first, ..] => !is_end(*first),
+    }
+}
+
+/// What is left behind the line that a part stands in, or all of it, where it stands before a line.
+pub(crate) fn later_part(part: Part<'_>, inside: bool) -> Part<'_>
+    requires { part.line + length part.bytes.now + 1 < 2 ^ 32 }
+    ensures lines { lines_from result.line result.bytes.now ≡ later_lines inside part.entry }
+    ensures within { result.line + length result.bytes.now ≤
+        part.entry.line + length part.entry.bytes.now + 1 }
+    ensures some { 0 < length result.bytes.now →
+        result.line + length result.bytes.now ≤ part.entry.line + length part.entry.bytes.now }
+    ensures shorter { length result.bytes.now ≤ length part.entry.bytes.now }
+{
+    if !inside {
+        return part;
+    }
+    Part {
+        bytes: behind_line(part.bytes),
+        line: part.line + 1,
+        column: 1,
+    }
+}
+
+/// The first line with a token, and what stands behind. The part stands before a line.
+pub(crate) fn find_line(part: Part<'_>) -> Option<Part<'_>>
+    requires { part.line + length part.bytes.now < 2 ^ 32 }
+    ensures none { IfNone result (lines_from part.entry.line part.entry.bytes.now ≡ []) }
+    ensures found { IfSome result (λ line. IsFirstLine part.entry line) }
+{
+    let mut line = part.line;
+    let mut rest = part.bytes;
+    'lines: while !rest.is_empty() {
+        let (_, bytes) = rest.split_at(blank_len(rest));
+        if is_seen(bytes) {
+            return Some(Part {
+                bytes: rest,
                 line,
                 column: 1,
-            };
-            return Some((part, after));
+            });
         }
-        rest = after;
+        rest = behind_line(bytes);
         line += 1;
     }
     None
 }
 
-/// The first token of a part, and what is left of the part behind it.
+/// The first token that is left of a line, and what is left behind it.
 pub(crate) fn first_token(part: Part<'_>) -> Option<(Token<'_>, Part<'_>)>
     requires { part.column + length part.bytes.now < 2 ^ 32 }
     ensures none { IfNone result (tokens_in part.entry ≡ []) }
@@ -85,30 +119,49 @@ fn token_at(part: Part<'_>) -> Option<(Token<'_>, Part<'_>)>
         line,
         column,
     } = part;
+    let len = word_len(bytes);
+    if len == 0 {
+        return stray_at(part);
+    }
+    let (bytes, after) = bytes.split_at(len);
+    let rest = Part {
+        bytes: after,
+        line,
+        column: column + len as u32,
+    };
+    let word = Word {
+        bytes,
+        line,
+        column,
+    };
+    Some((Token::Word(word), rest))
+}
+
+/// The byte in front, where it is neither a blank nor the first of a word.
+fn stray_at(part: Part<'_>) -> Option<(Token<'_>, Part<'_>)>
+    requires fits { part.column + length part.bytes.now < 2 ^ 32 }
+    requires no_blank { starts_blank part.bytes.now ≡ false }
+    requires no_word { starts_word part.bytes.now ≡ false }
+    ensures none { IfNone result (tokens_in part.entry ≡ []) }
+    ensures first { IfSome result (λ r. IsFirst part.entry r.0 r.1) }
+{
+    let Part {
+        bytes,
+        line,
+        column,
+    } = part;
     match bytes {
         [] => None,
         [first, after @ ..] => {
-            if !is_word_byte(*first) {
-                let rest = Part {
-                    bytes: after,
-                    line,
-                    column: column + 1,
-                };
-                return Some((Token::Bad { line, column }, rest));
+            if is_end(*first) {
+                return None;
             }
-            let len = word_len(bytes);
-            let (bytes, after) = bytes.split_at(len);
             let rest = Part {
                 bytes: after,
                 line,
-                column: column + len as u32,
+                column: column + 1,
             };
-            let word = Word {
-                bytes,
-                line,
-                column,
-            };
-            Some((Token::Word(word), rest))
+            Some((Token::Bad { line, column }, rest))
         }
     }
 }

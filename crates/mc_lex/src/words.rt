@@ -6,7 +6,7 @@ ghost use Rattle.mc_lex.specs.Given.{item_of, first_of, EndsAt};
 ghost use Rattle.mc_lex.specs.Left.{begin, has_line, on_first, passed};
 ghost use Rattle.mc_lex.specs.Places.{WordsAreSlices, LinesInOrder};
 
-use crate::part::{Part, end_of_text, find_line, first_token};
+use crate::part::{Part, end_of_text, find_line, first_token, later_part};
 use crate::token::Token;
 use std::marker::Model;
 
@@ -15,12 +15,10 @@ use std::marker::Model;
 #[derive(Drop)]
 pub struct Words<'a> {
     text: &'a [u8],
-    /// What is left of the current line, where there is one.
-    current: Option<Part<'a>>,
-    /// The text behind the current line.
-    after: &'a [u8],
-    /// The number of the line that `after` begins with.
-    number: u32,
+    /// What is left of the text from the current line on, where there is one.
+    rest: Part<'a>,
+    /// Whether there is a current line.
+    inside: bool,
     /// The end place, once it has been counted.
     end: Option<(u32, u32)>,
 }
@@ -31,9 +29,9 @@ impl<'a> Model for Words<'a> {
 
     ghost Value = { Left };
 
-    ghost view = { λ w. left_of w.text.now w.current w.after.now w.number };
+    ghost view = { λ w. left_of w.text.now w.rest w.inside };
 
-    ghost invariant = { λ w. IsPlaced w.text.now w.current w.after.now w.number w.end };
+    ghost invariant = { λ w. IsPlaced w.text.now w.rest w.end };
 }
 
 impl<'a> Words<'a> {
@@ -47,9 +45,12 @@ impl<'a> Words<'a> {
     {
         Words {
             text,
-            current: None,
-            after: text,
-            number: 1,
+            rest: Part {
+                bytes: text,
+                line: 1,
+                column: 1,
+            },
+            inside: false,
             end: None,
         }
     }
@@ -60,16 +61,15 @@ impl<'a> Words<'a> {
         ensures found { result ≡ has_line self.old.later }
         ensures left { self.new ≡ on_first self.old.later self.old.last }
     {
-        match find_line(self.number, self.after) {
-            Some((part, after)) => {
-                self.current = Some(part);
-                self.after = after;
-                self.number = part.line + 1;
+        match find_line(later_part(self.rest, self.inside)) {
+            Some(part) => {
+                self.rest = part;
+                self.inside = true;
                 true
             }
             None => {
-                self.current = None;
-                self.after = &self.text[..0];
+                self.rest.bytes = &self.text[..0];
+                self.inside = false;
                 false
             }
         }
@@ -82,18 +82,18 @@ impl<'a> Words<'a> {
         ensures end { EndsAt result self.old.lack }
         ensures left { self.new ≡ passed self.old }
     {
-        let Some(part) = self.current else {
+        if !self.inside {
             let (line, column) = self.counted_end();
             return Token::End { line, column };
-        };
-        match first_token(part) {
+        }
+        match first_token(self.rest) {
             Some((token, rest)) => {
-                self.current = Some(rest);
+                self.rest = rest;
                 token
             }
             None => Token::End {
-                line: part.line,
-                column: part.column,
+                line: self.rest.line,
+                column: self.rest.column,
             },
         }
     }

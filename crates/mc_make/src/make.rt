@@ -1,9 +1,9 @@
 //! Making patterns.
 
-ghost use Rattle.std.specs.Prelude.{◌≡◌, ◌<◌, ◌≤◌, [], ◌∷◌, ◌++◌, List, length};
+ghost use Rattle.std.specs.Prelude.{◌≡◌, ◌<◌, [], ◌∷◌, ◌++◌, List, length};
 ghost use Rattle.mc_bits.specs.Rows.{bit_of};
 ghost use Rattle.std.specs.Prelude.{Bool, cond, not, false, ◌&&◌};
-ghost use Rattle.std.specs.Prelude.{nat_eq, map, flat_map, IfOk, OnOk};
+ghost use Rattle.std.specs.Prelude.{nat_eq, map, IfOk, OnOk};
 ghost use Rattle.mc_model.specs.Numbers.{is_member, numbers_where};
 ghost use Rattle.mc_model.specs.Bits.{Bits, all_zero};
 ghost use Rattle.mc_model.specs.Signals.{signal_of as plain_signal_of};

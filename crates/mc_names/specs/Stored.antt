@@ -13,6 +13,10 @@ pub record IsStored (bytes : List ℕ) (len : ℕ) : Type 0 where
   pub name : IsTrue (is_name (take len bytes))
   pub zeros : drop len bytes ≡ replicate (16 - len) 0
 
+-- a name with zeros behind it, as it lies in sixteen bytes
+abbrev pub padded : List ℕ → List ℕ
+padded name = name ++ replicate (16 - length name) 0
+
 pub same_len : (bytes : List ℕ) (len : ℕ) → IsStored bytes len → length (take len bytes) ≡ len
 same_len bytes len h = let w = h.whole in let k = h.within in length-take-le len bytes (omega arith)
 

@@ -44,7 +44,7 @@ impl PartialEq for Name {
     ghost laws = { Prim.search (comparing, rules) };
 
     fn eq(&self, other: &Name) -> bool {
-        self.bytes() == other.bytes()
+        self.bytes == other.bytes
     }
 }
 
@@ -55,16 +55,16 @@ impl Eq for Name {
 }
 
 impl Hash for Name {
-    ghost use Rattle.std.specs.Hash as fed;
+    ghost use Rattle.std.specs.Prelude.{◌∷◌, []};
     ghost use Rattle.std.proofs.Common.{ap};
-    ghost use Rattle.mc_names.specs.Stored.{name_eq-true};
+    ghost use Rattle.mc_names.specs.Stored.{padded, name_eq-true};
 
-    ghost hash_input = { λ n. fed.slice fed.u8 n };
+    ghost hash_input = { λ n. padded n ∷ [] };
 
-    ghost respects_eq = { λ a b e. ap (λ n. fed.slice fed.u8 n) (name_eq-true a b e) };
+    ghost respects_eq = { λ a b e. ap (λ n. padded n ∷ []) (name_eq-true a b e) };
 
     fn hash<H: Hasher>(&self, state: &mut H) {
-        self.bytes().hash(state);
+        state.write(&self.bytes);
     }
 }
 

@@ -1,8 +1,8 @@
 //! Building patterns.
 
-ghost use Rattle.std.specs.Prelude.{◌≡◌, ◌↔◌, ℕ, ◌<◌, ◌≤◌, [], ◌∷◌, ◌++◌, length, Err, Some};
+ghost use Rattle.std.specs.Prelude.{◌≡◌, ◌↔◌, ℕ, ◌<◌, [], ◌∷◌, ◌++◌, length, Err, Some};
 ghost use Rattle.std.specs.Prelude.{None};
-ghost use Rattle.std.specs.Prelude.{OnOk, IfOk, OnErr, IfErr, IsErrAnd, false, ◌⊎◌, IsTrue};
+ghost use Rattle.std.specs.Prelude.{OnOk, IfOk, OnErr, IfErr, IsErrAnd, false, IsTrue};
 ghost use Rattle.std.specs.Option.{ForSome};
 ghost use Rattle.mc_model.specs.Steps.{is_permitted};
 ghost use Rattle.mc_model.specs.Limits.{most_qubits, most_commands};
@@ -219,7 +219,7 @@ impl<const H: usize> Builder<H> {
     /// The pattern with these outputs. `Rule` gives the least rule that they break: 5, an output is no qubit; 6, an output was
     /// measured; 7, an output is listed twice; 8, a qubit that was not measured is not listed. A refusal, `Memory` last, hands
     /// the builder back as it was.
-    pub fn finish(self, alloc: Global, outputs: &[u16]) -> Result<Pattern<H>, (Builder<H>, PushEnd)>
+    pub fn finish(self, outputs: &[u16]) -> Result<Pattern<H>, (Builder<H>, PushEnd)>
         ensures pattern { IfOk result (λ pattern. pattern ≡ with_outputs self.entry outputs.now) }
         ensures allowed { OnOk result (broken_outputs self.entry outputs.now ≡ None) }
         ensures rule { (n : ℕ) → IsErrAnd result (λ refused. refused.1 ≡ PushEnd.Rule n) ↔
@@ -231,6 +231,7 @@ impl<const H: usize> Builder<H> {
         if let Some(rule) = rule_of_outputs(self.names.len(), self.marks.as_slice(), outputs) {
             return Err((self, PushEnd::Rule(rule)));
         }
+        let alloc = *self.commands.allocator();
         match outputs.to_vec(alloc) {
             Ok(outs) => Ok(Pattern {
                 names: self.names,

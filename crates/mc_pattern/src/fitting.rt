@@ -14,7 +14,6 @@ use crate::command::Command;
 use crate::pattern::Pattern;
 use mc_model::Memory;
 use mc_names::Name;
-use std::alloc::Global;
 
 /// The refusal that is left where no other comes.
 fn want_of_memory(end: PushEnd) -> Memory
@@ -63,11 +62,11 @@ impl<const H: usize> Builder<H> {
     }
 
     /// The pattern with outputs that list each qubit once that was not measured.
-    pub fn finish_listing(self, alloc: Global, outputs: &[u16]) -> Result<Pattern<H>, Memory>
+    pub fn finish_listing(self, outputs: &[u16]) -> Result<Pattern<H>, Memory>
         requires { ListsOnce (length self.names) (λ q. not (measured self.commands q)) outputs.now }
         ensures { IfOk result (λ pattern. pattern ≡ with_outputs self.entry outputs.now) }
     {
-        match self.finish(alloc, outputs) {
+        match self.finish(outputs) {
             Ok(pattern) => Ok(pattern),
             Err((_, end)) => Err(want_of_memory(end)),
         }

@@ -1,6 +1,6 @@
 //! The rules that outputs keep.
 
-ghost use Rattle.std.specs.Prelude.{◌≡◌, ◌<◌, ◌≤◌, ◌&&◌, All, not, nat_lt, nat_eq, count_by};
+ghost use Rattle.std.specs.Prelude.{◌≡◌, ◌<◌, ◌≤◌, ◌&&◌, All};
 ghost use Rattle.std.specs.List.{list_any};
 ghost use Rattle.mc_model.specs.Bits.{bits_of};
 ghost use Rattle.mc_model.specs.Numbers.{numbers_from, is_member};

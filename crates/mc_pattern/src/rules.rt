@@ -1,6 +1,6 @@
 //! The rules that commands keep.
 
-ghost use Rattle.std.specs.Prelude.{◌≡◌, ◌∷◌, [], not, nat_lt, nat_eq, false, IfNone};
+ghost use Rattle.std.specs.Prelude.{◌≡◌, ◌∷◌, [], nat_eq, false, IfNone};
 ghost use Rattle.std.specs.List.{list_any};
 ghost use Rattle.mc_model.specs.Bits.{bits_of};
 ghost use Rattle.mc_pattern.specs.Commands.{plain_command};

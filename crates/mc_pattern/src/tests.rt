@@ -65,12 +65,12 @@ fn refuses_broken_commands(rt: HostRuntime) -> Result<(), Fail> {
 fn refuses_broken_outputs(rt: HostRuntime) -> Result<(), Fail> {
     let alloc = rt.alloc();
     for (outputs, rule) in [([2, 0], 5), ([1, 0], 6), ([1, 1], 7)] {
-        match with_j(&rt, alloc)?.finish(alloc, &outputs) {
+        match with_j(&rt, alloc)?.finish(&outputs) {
             Ok(_) => assert_eq!(rt; rule, 0),
             Err((_, end)) => assert_eq!(rt; end, PushEnd::Rule(rule)),
         }
     }
-    match with_j(&rt, alloc)?.finish(alloc, &[]) {
+    match with_j(&rt, alloc)?.finish(&[]) {
         Ok(_) => assert!(rt; false),
         Err((_, end)) => assert_eq!(rt; end, PushEnd::Rule(8)),
     }
@@ -80,7 +80,7 @@ fn refuses_broken_outputs(rt: HostRuntime) -> Result<(), Fail> {
 #[test]
 fn builds_a_pattern(rt: HostRuntime) -> Result<(), Fail> {
     let alloc = rt.alloc();
-    match with_j(&rt, alloc)?.finish(alloc, &[1]) {
+    match with_j(&rt, alloc)?.finish(&[1]) {
         Ok(pattern) => {
             assert_eq!(rt;
                 (pattern.names().len(), pattern.inputs(), pattern.measured()),

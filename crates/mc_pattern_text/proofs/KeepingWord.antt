@@ -14,7 +14,7 @@ use Rattle.mc_text.specs.Judged.{Words, Lines}
 use Rattle.mc_text.specs.Rules.{AreNumbers}
 use Rattle.mc_text.specs.Lists.{names_at, added, operand_at}
 use Rattle.mc_text.proofs.Going.{head_at}
-use Rattle.mc_text.proofs.Kept.{count_at, names_at-word, added_none, numbers-word}
+use Rattle.mc_text.proofs.Kept.{count_at, names_at-word, numbers-word}
 use Rattle.mc_text.proofs.Kept as lists
 use Rattle.mc_pattern_text.specs.declared.reader.Reader.{Reader}
 use Rattle.mc_pattern_text.specs.declared.reader.Operands.{Operands}

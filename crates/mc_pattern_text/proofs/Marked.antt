@@ -11,7 +11,6 @@ use Rattle.std.proofs.lemmas.Slice.Eq.{slice_eq-Decides}
 use Rattle.mc_model.specs.Bits.{Bits}
 use Rattle.mc_model.specs.Numbers.{is_member}
 use Rattle.mc_model.specs.Names.{name_eq, is_held, place_of}
-use Rattle.mc_names.specs.Stored.{name_eq-true}
 use Rattle.mc_text.specs.declared.fault.Fault.TheVariants.{Measured, SameOperand, ListedTwice}
 use Rattle.mc_text.specs.Judged.{fault}
 use Rattle.mc_text.specs.Rules.{known_name, number_in, AreNumbers}
@@ -63,19 +62,6 @@ second_name_same names measured first word q is still place =
     let name = place-same names is.name word q is.place place in
     let same = (slice_eq-Decides Decides-eqb is.name word (name_eq is.name word) refl).1 name in
     rw (is.is, still, same) refl
-
-pub second_name_clean : (names measured : List (List ℕ)) (first : Option (List ℕ)) (word : List ℕ)
-    (q r : ℕ) → IsOperand names first q → still_name names measured word ≡ None
-    → place_of names word ≡ Some r → (q ≡ r → ⊥) → second_name names measured first word ≡ None
-second_name_clean names measured first word q r is still place apart =
-    by_test (name_eq is.name word) refl
-  where
-    by_test : (t : Bool) → name_eq is.name word ≡ t → second_name names measured first word ≡ None
-    by_test false e = rw (is.is, still, e) refl
-    by_test true e =
-        let same = name_eq-true is.name word e in
-        let numbers : Some q ≡ Some r = sym is.place ∙ ap (place_of names) same ∙ place in
-        absurd (apart (cc numbers))
 
 -- an output
 numbered-name : (names listed : List (List ℕ)) (outputs : List ℕ) (word : List ℕ) (q : ℕ)

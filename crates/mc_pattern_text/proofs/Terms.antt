@@ -10,7 +10,6 @@ use Rattle.mc_model.specs.Signals.{toggled_all}
 use Rattle.mc_names.specs.Stored.{name_eq-true}
 use Rattle.mc_signal.proofs.Members.{is_member-toggled, toggled_all-single}
 use Rattle.mc_text.specs.declared.fault.Fault.TheVariants.{ListedTwice, NotMeasured}
-use Rattle.mc_text.specs.Points.{mark_of}
 use Rattle.mc_text.specs.Judged.{fault, Words}
 use Rattle.mc_text.specs.Rules.{known_name}
 use Rattle.mc_pattern_text.specs.Value.{is_constant, names_among}
@@ -28,9 +27,6 @@ name_no_constant word named = by_test (is_constant word) refl
     by_test : (t : Bool) → is_constant word ≡ t → t ≡ false
     by_test false e = refl
     by_test true e = let named' = rw (← constant_is word e) at named in absurd (cc named')
-
-pub constant_no_mark : (word : List ℕ) → is_constant word ≡ true → mark_of word ≡ None
-constant_no_mark word e = rw (← constant_is word e) refl
 
 -- a name stands among the words exactly where it stands among the names
 held_among : (words : Words) (word : List ℕ) → is_constant word ≡ false

@@ -25,7 +25,7 @@ pub data Role : Type 0 where
   output : Role
   surplus : Role
 
--- lines that define qubits, inputs among them; that prepare, entangle, measure and correct
+-- lines that define qubits, inputs among them; that entangle, measure and correct
 abbrev pub is_defining : Option Head → Bool
 is_defining (Some In) = true
 is_defining (Some N) = true
@@ -34,10 +34,6 @@ is_defining _ = false
 abbrev pub is_input : Option Head → Bool
 is_input (Some In) = true
 is_input _ = false
-
-abbrev pub is_preparing : Option Head → Bool
-is_preparing (Some N) = true
-is_preparing _ = false
 
 abbrev pub is_entangling : Option Head → Bool
 is_entangling (Some E) = true

@@ -17,7 +17,7 @@ ghost use Rattle.mc_text.specs.declared.head.Head.{Head as PlainHead};
 ghost use Rattle.mc_pattern_text.specs.Roles.{has_operand, role_of, role_behind};
 ghost use Rattle.mc_pattern_text.specs.Value.{is_constant as constant_word};
 ghost use Rattle.mc_pattern_text.specs.Judge.{judge_by, still_name, second_name, member_name};
-ghost use Rattle.mc_pattern_text.specs.Judge.{opening_word, term_word, first_term_word};
+ghost use Rattle.mc_pattern_text.specs.Judge.{opening_word, term_word};
 ghost use Rattle.mc_pattern_text.specs.Kept.{AreMarked, IsOperand, IsSpelled, Joins};
 ghost use Rattle.mc_pattern_text.specs.Kept.{AddsMember, AddsConstant, Stands, Takes, TakesBehind};
 ghost use Rattle.mc_pattern_text.specs.Kept.{signal_behind, known_by, command_with, AreTyped};

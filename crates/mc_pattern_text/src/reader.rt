@@ -1,6 +1,6 @@
 //! What a reader keeps of a pattern.
 
-ghost use Rattle.std.specs.Prelude.{◌≡◌, ◌≤◌, IsTrue, length, map};
+ghost use Rattle.std.specs.Prelude.{◌≤◌, IsTrue, length};
 ghost use Rattle.mc_model.specs.Steps.{is_permitted};
 
 use mc_angle::Angle;

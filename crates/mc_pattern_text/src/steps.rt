@@ -2,11 +2,11 @@
 
 ghost use Rattle.std.specs.Prelude.{◌≡◌, ◌↔◌, ℕ, ◌<◌, ◌≤◌, List, Option, true, false, ◌∷◌, []};
 ghost use Rattle.std.specs.Prelude.{◌++◌, ◌||◌, length, map, option_to_list, OnOk, OnErr, IfErr};
-ghost use Rattle.std.specs.Prelude.{IsTrue, Err, Some, None, nat_eq};
-ghost use Rattle.std.specs.List.{list_any, list_all};
+ghost use Rattle.std.specs.Prelude.{IsTrue, Err, Some, None};
+ghost use Rattle.std.specs.List.{list_all};
 ghost use Rattle.std.specs.Option.{option_map};
 ghost use Rattle.mc_pattern.specs.Commands.{plain_command};
-ghost use Rattle.mc_model.specs.Bits.{replaced, bits_of};
+ghost use Rattle.mc_model.specs.Bits.{bits_of};
 ghost use Rattle.mc_model.specs.Numbers.{is_member};
 ghost use Rattle.mc_model.specs.Names.{place_of};
 ghost use Rattle.mc_text.specs.Rules.{new_name, AreNumbers};

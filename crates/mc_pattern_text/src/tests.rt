@@ -29,7 +29,7 @@ fn with_j(rt: &impl Abort, alloc: Global) -> Result<Pattern<4>, Fail> {
     let mut s = Signal::empty(alloc);
     s.toggle(0)?;
     assert_eq!(rt; builder.push(Command::FixX { q: 1, s }), Ok(()));
-    match builder.finish(alloc, &[1]) {
+    match builder.finish(&[1]) {
         Ok(pattern) => Ok(pattern),
         Err((_, end)) => Err(end.into()),
     }

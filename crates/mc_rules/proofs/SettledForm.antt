@@ -238,12 +238,6 @@ z_none k (FixX q s ∷ cs) b = z_none k cs b.1
 z_none k (FixZ q s ∷ cs) b = let h = b.0 in
     rw (ne_eqb k q (λ e. absurd (omega arith))) (z_none k cs b.1)
 
-turned_test : (k q : ℕ) → nat_eq k q ≡ nat_eq q k
-turned_test k q = elim (cases_eq k q) [
-  | inl e ↦ eq-eqb k q e ∙ sym (eq-eqb q k (sym e))
-  | inr ne ↦ ne_eqb k q ne ∙ sym (ne_eqb q k (λ e. ne (sym e)))
-]
-
 one_z : (k : ℕ) (s u : Signal) → u ≡ no_signal → is_empty s ≡ false →
     fix_x k u ++ fix_z k s ≡ FixZ k s ∷ []
 one_z k s u e f = ap (λ (v : Signal). fix_x k v ++ fix_z k s) e

@@ -59,9 +59,6 @@ room_later k (suc l) n h = elim (cases_lt l k) [
   | inr g ↦ (let r = room_later k l n g in let s = room_next l n in omega arith)
 ]
 
-last_terms : (x y n w t : ℕ) → y ≤ x → t ≤ n → y + t < x + (n + 1)
-last_terms x y n w t a b = omega arith
-
 spread : (a c : ℕ) → (a + 1) * (c + 1) ≡ a * (c + 1) + (c + 1)
 spread a c = grind arith
 

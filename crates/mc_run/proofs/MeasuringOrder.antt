@@ -1,26 +1,23 @@
 -- The measuring order of a valid pattern, and lists that grow by an element.
-use Rattle.std.proofs.Common.{◌≡◌, ℕ, zero, suc, ◌+◌, ◌-◌, ◌/◌, ◌^◌, ◌<◌, ◌≤◌, Bool, true}
+use Rattle.std.proofs.Common.{◌≡◌, ℕ, zero, suc, ◌+◌, ◌-◌, ◌<◌, ◌≤◌, true}
 use Rattle.std.proofs.Common.{false}
-use Rattle.std.proofs.Common.{cond, ◌||◌, List, [], ◌∷◌, ◌++◌, length, get_or, take, drop}
-use Rattle.std.proofs.Common.{slice_index_or, replicate, refl, sym, subst, ap, ap₂, ◌∙◌, arith}
+use Rattle.std.proofs.Common.{cond, ◌||◌, List, [], ◌∷◌, ◌++◌, length}
+use Rattle.std.proofs.Common.{slice_index_or, replicate, refl, sym, subst, ap, ◌∙◌, arith}
 use Rattle.std.proofs.Common.{append_assoc}
 use Rattle.std.specs.Prelude.{nat_eq, All, count_by, slice_get, unwrap_or}
 use Rattle.std.proofs.lemmas.Bool.{eq-eqb, ne_eqb, cases_eq, true≢false}
-use Rattle.std.proofs.lemmas.List.{take_all}
 use Rattle.std.proofs.lemmas.List.Elements.{All-cons, All-nil}
 use Rattle.std.proofs.lemmas.List.Sums.{sum_by-cons}
 use mathlib.Core.Logic.{inl, inr}
 use mathlib.Core.Path.{fun_ext}
-use Rattle.mc_model.specs.Bits.{Bits, all_zero, replaced, bits_of}
+use Rattle.mc_model.specs.Bits.{all_zero, replaced, bits_of}
 use Rattle.mc_model.specs.Numbers.{ListsOnce}
 use Rattle.mc_model.specs.Pattern.{Command, Prep, Ent, Meas, FixX, FixZ, Pattern, measured_order}
-use Rattle.mc_model.specs.Amplitude.{placed}
 use Rattle.mc_model.specs.Valid.{IsValid, IsValidPattern, measured, prepared}
 use Rattle.mc_model.proofs.BitLemmas.{replaced_same, replaced_other}
 use Rattle.mc_model.proofs.ValidLemmas.{prepared-append, next_measured, none_measured}
 use Rattle.mc_pattern.specs.Patterns.{measured_count}
 use Rattle.mc_pattern.proofs.Listed.{length-listed}
-use Rattle.mc_run.specs.Settings.{is_odd, spelled, digit}
 
 pub order_first : (c : Command) (cs : List Command) →
     measured_order (c ∷ cs) ≡ measured_order (c ∷ []) ++ measured_order cs

@@ -8,7 +8,7 @@ use Rattle.std.specs.Prelude.{nat_eq, count_by, All, set}
 use Rattle.std.proofs.lemmas.List.Elements.{All-head, All-tail}
 use Rattle.std.proofs.Math.Nat.{pow-suc}
 use Rattle.std.proofs.lemmas.Nat.{pow_pos, mul-add-lt}
-use Rattle.std.proofs.lemmas.Bool.{eq-eqb, ne_eqb, cases_eq, cases_lt}
+use Rattle.std.proofs.lemmas.Bool.{eq-eqb, cases_eq, cases_lt}
 use Rattle.std.proofs.lemmas.List.{get_or-append-add, get_or_append_left, take_all, set-set}
 use Rattle.std.proofs.lemmas.List.Sums.{sum_by-cons}
 use mathlib.Core.Logic.{inl, inr}
@@ -16,7 +16,7 @@ use Rattle.mc_model.specs.Bits.{◌⊻◌, parity, Bits, all_zero, replaced, bit
 use Rattle.mc_model.specs.Signals.{Signal, value}
 use Rattle.mc_model.specs.Phase.{negated, measured_angle}
 use Rattle.mc_model.specs.Pattern.{Command, Prep, Ent, Meas, FixX, FixZ, Pattern, measured_order}
-use Rattle.mc_model.specs.Valid.{AllDone, FitsBehind, IsValid, IsValidPattern, measured, prepared}
+use Rattle.mc_model.specs.Valid.{AllDone, FitsBehind, IsValid, IsValidPattern, measured}
 use Rattle.mc_model.specs.Amplitude.{Amps, after, placed}
 use Rattle.mc_model.proofs.BitLemmas.{replaced_same, replaced_other, replaced_swap}
 use Rattle.mc_model.proofs.ValidLemmas.{next_measured, measured-append}

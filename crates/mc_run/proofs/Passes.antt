@@ -1,16 +1,16 @@
 -- What a pass over a vector in place keeps.
-use Rattle.std.proofs.Common.{◌≡◌, ℕ, ◌+◌, ◌*◌, ◌/◌, ◌<◌, ◌≤◌, Bool, true, false, ℤ, List, []}
-use Rattle.std.proofs.Common.{length, take, sym, subst, ap, ap₂, ◌∙◌, arith, get_or-set_same}
+use Rattle.std.proofs.Common.{◌≡◌, ℕ, ◌+◌, ◌<◌, ◌≤◌, Bool, true, false, ℤ, List, []}
+use Rattle.std.proofs.Common.{length, sym, subst, ap, ◌∙◌, arith, get_or-set_same}
 use Rattle.std.proofs.Common.{get_or-set_other}
 use Rattle.std.specs.Prelude.{set}
-use Rattle.std.proofs.lemmas.Bool.{cases_eq, cases_Bool}
-use Rattle.std.proofs.lemmas.List.{length-set, get_or-take}
+use Rattle.std.proofs.lemmas.Bool.{cases_eq}
+use Rattle.std.proofs.lemmas.List.{length-set}
 use mathlib.Core.Logic.{inl, inr}
 use Rattle.mc_run.specs.Exact.{Exact}
 use Rattle.mc_run.specs.Settings.{digit, with_more}
 use Rattle.mc_run.specs.Sources.{entry, taken, source, IsStepped}
 use Rattle.mc_run.specs.declared.step.Step.{Step}
-use Rattle.mc_run.proofs.Pairs.{pair_of, place_in_pair, pair_of_more, first_not_before}
+use Rattle.mc_run.proofs.Pairs.{pair_of, place_in_pair, pair_of_more}
 
 -- the places with a number below `j` have what is taken, the others what was there
 pub record Passed (ring : Exact) (step : Step) (number : ℕ → ℕ) (j : ℕ)

@@ -10,7 +10,7 @@ use Rattle.mc_run.specs.Exact.{Exact}
 use Rattle.mc_run.specs.Settings.{digit, with_digit, with_more}
 use Rattle.mc_run.specs.Sources.{entry, taken, source, half_where, CanTake, ArePairs, IsStepped}
 use Rattle.mc_run.specs.declared.step.Step.{Step}
-use Rattle.mc_run.specs.declared.step.Step.TheVariants.{Ent, X, Z, J, Meas}
+use Rattle.mc_run.specs.declared.step.Step.TheVariants.{Ent, X, Z, J}
 use Rattle.mc_run.proofs.Turns.{Obeys}
 use Rattle.mc_run.proofs.Pairs.{pair_of, place_in_pair, pair_of_more, digit_more, with_digit_more}
 use Rattle.mc_run.proofs.Pairs.{more_within}

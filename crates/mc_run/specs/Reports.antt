@@ -1,12 +1,11 @@
 -- Reports on all branches of a pattern.
-use Rattle.std.specs.Prelude.{◌≡◌, ℕ, ◌*◌, ◌^◌, ◌<◌, ℤ, List, [], ◌∷◌, length, slice_index_or}
-use Rattle.std.specs.Prelude.{Option, MatchOption}
+use Rattle.std.specs.Prelude.{◌≡◌, ℕ, ◌^◌, ◌<◌, List, length, slice_index_or, Option}
 use Rattle.mc_model.specs.Bits.{Bits}
 use Rattle.mc_model.specs.Ring.{ring}
-use Rattle.mc_model.specs.Pattern.{Command, Prep, Ent, Meas, FixX, FixZ, Pattern, measured_order}
+use Rattle.mc_model.specs.Pattern.{Pattern, measured_order}
 use Rattle.mc_model.specs.Amplitude.{placed, branch_map, pattern_scale}
 use Rattle.mc_pattern.specs.Patterns.{measured_count}
-use Rattle.mc_cyclo.specs.Phase.{IsPhase}
+use Rattle.mc_cyclo.specs.Phase.{IsLeastPhase}
 use Rattle.mc_run.specs.Settings.{spelled}
 use Rattle.mc_run.specs.Tables.{TableValue, IsTableOf}
 
@@ -22,12 +21,6 @@ pub record ReportValue : Type 0 where
 
 pub record IsReport (r : ReportValue) : Type 0 where
   pub same : length r.phases ≡ length r.tables
-
--- the least power of `w` by which the first entries are the second, or there is none
-abbrev pub IsLeastPhase : ℕ → List (List ℤ) → List (List ℤ) → Option ℕ → Type 0
-IsLeastPhase half a b phase =
-    MatchOption phase ((k : ℕ) → k < 2 * half → ¬ IsPhase a b k)
-    (λ k. (k < 2 * half) × IsPhase a b k × ((j : ℕ) → j < k → ¬ IsPhase a b j))
 
 -- every branch has its table, and its phase is that by which it is the first branch
 pub record IsReportOf (half : ℕ) (p : Pattern) (r : ReportValue) : Type 0 where

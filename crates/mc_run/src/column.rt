@@ -1,6 +1,6 @@
 //! Columns of tables, one for each setting of the inputs.
 
-ghost use Rattle.std.specs.Prelude.{◌≡◌, ℕ, ◌+◌, ◌<◌, ◌≤◌, ◌^◌, All, IfOk, length, map};
+ghost use Rattle.std.specs.Prelude.{◌≡◌, ℕ, ◌<◌, ◌≤◌, ◌^◌, All, IfOk, length, map};
 ghost use Rattle.mc_run.specs.Settings.{place_spelled};
 ghost use Rattle.mc_run.specs.Sources.{entry};
 ghost use Rattle.mc_run.specs.Gates.{IsLiving};

@@ -2,9 +2,8 @@
 
 ghost use Rattle.std.specs.Prelude.{◌≡◌, ℕ, ◌+◌, ◌*◌, ◌<◌, ◌≤◌, ◌^◌, ◌%◌, ◌∷◌, cond};
 ghost use Rattle.std.specs.Prelude.{All, IfOk};
-ghost use Rattle.std.specs.Prelude.{IsTrue, length, map};
+ghost use Rattle.std.specs.Prelude.{length, map};
 ghost use Rattle.mc_model.specs.Bits.{bits_of};
-ghost use Rattle.mc_model.specs.Steps.{is_permitted};
 ghost use Rattle.mc_model.specs.Phase.{negated, measured_angle};
 ghost use Rattle.mc_model.specs.Amplitude.{start, after};
 ghost use Rattle.mc_pattern.specs.Commands.{plain_command};

@@ -1,13 +1,13 @@
 //! Circuits, gate by gate.
 
-ghost use Rattle.std.specs.Prelude.{◌≡◌, ℕ, ◌+◌, ◌<◌, ◌≤◌, ◌^◌, IfOk, length, map};
+ghost use Rattle.std.specs.Prelude.{◌≡◌, ◌<◌, ◌≤◌, ◌^◌, IfOk, length, map};
 ghost use Rattle.mc_model.specs.Bits.{bits_of};
 ghost use Rattle.mc_model.specs.Amplitude.{start, after_gates, j_count};
 ghost use Rattle.mc_model.specs.Pattern.{wires};
 ghost use Rattle.mc_circuit.specs.Gates.{plain_gate};
 ghost use Rattle.mc_run.specs.Exact.{exact, phases};
 ghost use Rattle.mc_run.specs.Settings.{spelled, numbers_below};
-ghost use Rattle.mc_run.specs.Sources.{entry, IsStepped, IsSmall, Holds};
+ghost use Rattle.mc_run.specs.Sources.{IsStepped, IsSmall, Holds};
 ghost use Rattle.mc_run.specs.Gates.{gate_step, IsGateReady, IsLowFor};
 
 use crate::place::weight_of;

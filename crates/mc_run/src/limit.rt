@@ -1,8 +1,6 @@
 //! Limits of a run.
 
-ghost use Rattle.std.specs.Prelude.{◌≡◌, ◌↔◌, ℕ, ◌<◌, IfSome, MatchOption, Some, None, length, map};
-ghost use Rattle.mc_model.specs.Amplitude.{j_count};
-ghost use Rattle.mc_circuit.specs.Gates.{plain_gate};
+ghost use Rattle.std.specs.Prelude.{◌≡◌, ◌↔◌, ℕ, ◌<◌, IfSome, MatchOption, Some, None};
 ghost use Rattle.mc_run.specs.Limits.{first_limit};
 
 use mc_circuit::Gate;

@@ -4,9 +4,10 @@ ghost use Rattle.std.specs.Prelude.{◌≡◌, ◌↔◌, ℕ, ◌+◌, ◌<◌,
 ghost use Rattle.std.specs.Prelude.{None, Some, length, slice_index_or};
 ghost use Rattle.mc_model.specs.Steps.{is_permitted};
 ghost use Rattle.mc_pattern.specs.Patterns.{measured_count};
+ghost use Rattle.mc_cyclo.specs.Phase.{IsLeastPhase};
 ghost use Rattle.mc_run.specs.Limits.{all_limit};
 ghost use Rattle.mc_run.specs.Tables.{TableValue};
-ghost use Rattle.mc_run.specs.Reports.{IsLeastPhase, IsReportOf};
+ghost use Rattle.mc_run.specs.Reports.{IsReportOf};
 
 use crate::branch::MOST_COMMANDS;
 use crate::limit::{RunEnd, passed};

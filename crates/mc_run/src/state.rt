@@ -1,11 +1,11 @@
 //! The live qubits and the vector of their amplitudes.
 
-ghost use Rattle.std.specs.Prelude.{◌≡◌, ℕ, ◌+◌, ◌<◌, ◌≤◌, ◌^◌, [], ◌∷◌, IfOk, length, map};
+ghost use Rattle.std.specs.Prelude.{◌≡◌, ℕ, ◌<◌, ◌≤◌, ◌^◌, [], ◌∷◌, IfOk, length, map};
 ghost use Rattle.mc_model.specs.Bits.{bits_of};
 ghost use Rattle.mc_model.specs.Amplitude.{start};
 ghost use Rattle.mc_run.specs.Exact.{exact, phases};
 ghost use Rattle.mc_run.specs.Settings.{spelled, numbers_below};
-ghost use Rattle.mc_run.specs.Sources.{entry, source, CanTake, IsLongFor, IsStepped, IsSmall};
+ghost use Rattle.mc_run.specs.Sources.{source, CanTake, IsLongFor, IsStepped, IsSmall};
 ghost use Rattle.mc_run.specs.Sources.{IsGrowth, Holds};
 
 use crate::place::{digit, two_to};

@@ -1,6 +1,6 @@
 //! Steps from one vector to the next.
 
-ghost use Rattle.std.specs.Prelude.{◌≡◌, ◌<◌, ◌≤◌, ◌^◌};
+ghost use Rattle.std.specs.Prelude.{◌≡◌, ◌≤◌, ◌^◌};
 ghost use Rattle.mc_run.specs.Sources.{half_where, source, IsSmall};
 
 use crate::place::{digit, with_digit, with_more};

@@ -36,7 +36,7 @@ fn with_j(rt: &impl Abort, alloc: Global, steps: i64, times: u32) -> Result<Circ
         };
         assert_eq!(rt; builder.push(gate), Ok(()));
     }
-    match builder.finish(alloc, &[0]) {
+    match builder.finish(&[0]) {
         Ok(circuit) => Ok(circuit),
         Err((_, end)) => Err(Fail::from(end)),
     }
@@ -99,7 +99,7 @@ fn tells_limits(rt: HostRuntime) -> Result<(), Fail> {
         ),
     }
     let builder: CircuitBuilder<4> = CircuitBuilder::new(alloc, names(&rt, alloc, 9));
-    match builder.finish(alloc, &[0, 1, 2, 3, 4, 5, 6, 7, 8]) {
+    match builder.finish(&[0, 1, 2, 3, 4, 5, 6, 7, 8]) {
         Ok(circuit) => match run_circuit(alloc, &circuit) {
             Ok(_) => assert!(rt; false),
             Err(end) => assert_eq!(rt;
@@ -142,7 +142,7 @@ fn pattern(rt: &impl Abort, alloc: Global, corrected: bool) -> Result<Pattern<4>
         };
         assert_eq!(rt; builder.push(fix), Ok(()));
     }
-    match builder.finish(alloc, &[1]) {
+    match builder.finish(&[1]) {
         Ok(pattern) => Ok(pattern),
         Err((_, end)) => Err(Fail::from(end)),
     }

@@ -9,8 +9,7 @@ use Rattle.std.specs.Ordering.{int_eq}
 use Rattle.std.proofs.lemmas.Bool.{cases_Bool, cases_lt, true≢false}
 use Rattle.mc_model.specs.Numbers.{numbers_from}
 use Rattle.mc_model.specs.Ring.{rotations}
-use Rattle.mc_cyclo.specs.Phase.{IsPhase}
-use Rattle.mc_run.specs.Reports.{IsLeastPhase}
+use Rattle.mc_cyclo.specs.Phase.{IsPhase, IsLeastPhase}
 use Rattle.mc_run_text.specs.Runs.{is_phase, least_phase}
 
 -- ---- the test decides whether two lists are one

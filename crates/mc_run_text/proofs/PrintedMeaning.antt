@@ -11,9 +11,10 @@ use Rattle.mc_model.specs.Pattern.{Pattern, Circuit, measured_order}
 use Rattle.mc_model.specs.Amplitude.{placed, branch_map, circuit_table, pattern_scale}
 use Rattle.mc_model.specs.Amplitude.{circuit_scale}
 use Rattle.mc_pattern.specs.Patterns.{measured_count}
+use Rattle.mc_cyclo.specs.Phase.{IsLeastPhase}
 use Rattle.mc_run.specs.Settings.{spelled}
 use Rattle.mc_run.specs.Tables.{TableValue, entry_at, IsTable, IsTableOf}
-use Rattle.mc_run.specs.Reports.{ReportValue, IsReportOf, IsLeastPhase, outcomes_of}
+use Rattle.mc_run.specs.Reports.{ReportValue, IsReportOf, outcomes_of}
 use Rattle.mc_run_text.specs.Canonical.{bits_word, reduced_words, amplitude_lines, table_text}
 use Rattle.mc_run_text.specs.Canonical.{branch_text, phase_word, table_at, phase_at, branch_lines}
 use Rattle.mc_run_text.specs.Canonical.{alike_line, report_text}

@@ -1,7 +1,7 @@
 //! Bits as words of a line.
 
 ghost use Rattle.std.specs.Prelude.{◌≡◌, ◌∷◌, ◌++◌, [], ◌<◌, cond, OnOk};
-ghost use Rattle.mc_run.specs.Settings.{spelled, is_odd};
+ghost use Rattle.mc_run.specs.Settings.{spelled};
 ghost use Rattle.mc_run_text.specs.Canonical.{digits, bits_word};
 
 use mc_model::Memory;

@@ -29,7 +29,7 @@ fn circuit(rt: &impl Abort, alloc: Global) -> Result<Circuit<4>, Fail> {
         angle: Angle::of(1),
     };
     assert_eq!(rt; builder.push(gate), Ok(()));
-    match builder.finish(alloc, &[0]) {
+    match builder.finish(&[0]) {
         Ok(circuit) => Ok(circuit),
         Err((_, end)) => Err(Fail::from(end)),
     }
@@ -52,7 +52,7 @@ fn measured(rt: &impl Abort, alloc: Global, corrected: bool) -> Result<Pattern<4
         s.toggle(0)?;
         assert_eq!(rt; builder.push(Command::FixX { q: 1, s }), Ok(()));
     }
-    match builder.finish(alloc, &[1]) {
+    match builder.finish(&[1]) {
         Ok(pattern) => Ok(pattern),
         Err((_, end)) => Err(Fail::from(end)),
     }
@@ -63,7 +63,7 @@ fn edge(rt: &impl Abort, alloc: Global) -> Result<Pattern<4>, Fail> {
     let mut builder = Builder::new(alloc, one_name(rt, alloc))?;
     assert_eq!(rt; builder.prep(name(rt, "b")), Ok(1));
     assert_eq!(rt; builder.push(Command::Ent(0, 1)), Ok(()));
-    match builder.finish(alloc, &[0, 1]) {
+    match builder.finish(&[0, 1]) {
         Ok(pattern) => Ok(pattern),
         Err((_, end)) => Err(Fail::from(end)),
     }

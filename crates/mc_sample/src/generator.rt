@@ -1,6 +1,6 @@
 //! Making sample circuits.
 
-ghost use Rattle.std.specs.Prelude.{◌≡◌, ◌<◌, ◌≤◌, [], ◌∷◌, ◌++◌, length, map, true, IfOk, OnOk};
+ghost use Rattle.std.specs.Prelude.{◌≡◌, ◌<◌, ◌≤◌, [], ◌∷◌, ◌++◌, map, IfOk, OnOk};
 ghost use Rattle.mc_model.specs.Numbers.{numbers_from};
 ghost use Rattle.mc_sample.specs.Generator.{next_number as following, wire_by as wire_of};
 ghost use Rattle.mc_sample.specs.Generator.{angle_by as angle_of, other_by as other_of, gates_by};
@@ -114,11 +114,11 @@ fn push_gates(builder: &mut CircuitBuilder<4>, x: u32) -> Result<(), Memory>
     push(builder, cz)
 }
 
-fn finish(alloc: Global, builder: CircuitBuilder<4>) -> Result<Circuit<4>, Memory>
+fn finish(builder: CircuitBuilder<4>) -> Result<Circuit<4>, Memory>
     ensures { IfOk result (λ circuit. circuit ≡
         record builder { outputs = numbers_from 0 8 }) }
 {
-    match builder.finish(alloc, &[0, 1, 2, 3, 4, 5, 6, 7]) {
+    match builder.finish(&[0, 1, 2, 3, 4, 5, 6, 7]) {
         Ok(circuit) => Ok(circuit),
         Err(_) => Err(Memory),
     }
@@ -136,5 +136,5 @@ pub fn sample(alloc: Global, n: u32) -> Result<Circuit<4>, Memory>
         x = next_number(x);
         push_gates(&mut builder, x)?;
     }
-    finish(alloc, builder)
+    finish(builder)
 }

@@ -154,6 +154,6 @@ pub fn shift<const H: usize>(
     let mut change = Change::new(alloc);
     let measures = shift_measures(alloc, p, &mut shifts, &mut change)?;
     let fixes = shift_fixes(alloc, p, &shifts)?;
-    let shifted = p.with_signals(alloc, measures, fixes)?;
+    let shifted = p.with_signals(measures, fixes)?;
     Ok((shifted, change))
 }

@@ -50,7 +50,7 @@ fn three_j(rt: &impl Abort, alloc: Global) -> Result<Pattern<4>, Fail> {
     push_j(rt, alloc, &mut builder, 0, 1, -1)?;
     push_j(rt, alloc, &mut builder, 1, 2, -2)?;
     push_j(rt, alloc, &mut builder, 2, 3, -3)?;
-    match builder.finish(alloc, &[3]) {
+    match builder.finish(&[3]) {
         Ok(pattern) => Ok(pattern),
         Err((_, end)) => Err(Fail::from(end)),
     }

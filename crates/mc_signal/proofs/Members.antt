@@ -1,14 +1,18 @@
--- The members of a toggled set and of a sum.
+-- The members of a toggled set and of a sum, and bits that are changed member by member.
 use Rattle.std.proofs.Common.{◌≡◌, ℕ, ◌<◌, Bool, true, false, ◌||◌, List, [], ◌∷◌, refl, ◌∙◌, arith}
-use Rattle.std.proofs.Common.{suc, get_or, length, All}
-use Rattle.std.specs.Prelude.{nat_eq, nat_lt}
+use Rattle.std.proofs.Common.{suc, ◌+◌, ◌≤◌, get_or, length, drop, All, sym, ap, ap₂, subst}
+use Rattle.std.specs.Prelude.{Some, nat_eq, nat_lt, slice_get}
 use Rattle.std.proofs.lemmas.Bool.{ne_eqb, eqb-true, ltb-true, cases_Bool}
+use Rattle.std.proofs.lemmas.List.{drop_all}
+use Rattle.std.proofs.lemmas.Option.{slice_get_within, get_or_from_slice_get}
+use Rattle.std.proofs.Math.Seq.{drop-cons}
 use mathlib.Core.Logic.{inl, inr}
 use Rattle.mc_model.specs.Numbers.{is_member}
 use Rattle.mc_model.specs.Bits.{◌⊻◌}
 use Rattle.mc_model.specs.Signals.{toggled, toggled_all, AllAbove, IsRising}
+use Rattle.mc_model.proofs.BitLemmas.{xor_false}
 use Rattle.mc_model.proofs.SignalLemmas.{toggled_rising, toggled_all_rising}
-use Rattle.mc_signal.proofs.Rising.{AllAbove-lower}
+use Rattle.mc_signal.proofs.Rising.{AllAbove-lower, rising_drop}
 
 pub is_member-above : (q : ℕ) (ps : List ℕ) → AllAbove q ps → is_member ps q ≡ false
 is_member-above q [] above = refl
@@ -92,3 +96,27 @@ is_member-small q ps small member = small_by q ps (λ i lt. small i 0 lt) member
 pub toggled_all-single : (q : ℕ) (ps : List ℕ) → toggled_all (q ∷ []) ps ≡ toggled q ps
 unfolding toggled_all
 toggled_all-single q ps = refl
+
+-- ---- bits that are changed member by member
+
+-- one more bit was changed
+pub flipped_more : (qs : List ℕ) (i q k : ℕ) (a b x : Bool) → IsRising qs →
+    slice_get qs i ≡ Some q → b ≡ (a ⊻ nat_eq k q) → (a ⊻ is_member (drop i qs) k) ≡ x →
+    (b ⊻ is_member (drop (i + 1) qs) k) ≡ x
+flipped_more qs i q k a b x rising at changed h =
+    let next : suc i ≡ i + 1 = omega arith in
+    let rest : drop i qs ≡ q ∷ drop (i + 1) qs =
+    drop-cons qs i 0 (slice_get_within qs i q at)
+    ∙ ap₂ (λ (r n : ℕ). r ∷ drop n qs) (get_or_from_slice_get qs i q 0 at) next in
+    let rise : IsRising (q ∷ drop (i + 1) qs) = subst IsRising rest (rising_drop i qs rising) in
+    ap (λ (y : Bool). y ⊻ is_member (drop (i + 1) qs) k) changed
+    ∙ sym (regrouped a (nat_eq k q) (is_member (drop (i + 1) qs) k))
+    ∙ ap (λ (y : Bool). a ⊻ y) (sym (is_member-first q k (drop (i + 1) qs) rise.0))
+    ∙ ap (λ (rs : List ℕ). a ⊻ is_member rs k) (sym rest)
+    ∙ h
+
+-- all bits were changed
+pub flipped_all : (qs : List ℕ) (i k : ℕ) (a x : Bool) → length qs ≤ i →
+    (a ⊻ is_member (drop i qs) k) ≡ x → a ≡ x
+flipped_all qs i k a x over h =
+    sym (xor_false a) ∙ ap (λ (rs : List ℕ). a ⊻ is_member rs k) (sym (drop_all i qs over)) ∙ h

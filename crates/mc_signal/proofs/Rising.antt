@@ -1,5 +1,5 @@
 -- Rising lists by places, and toggling at the place where a number stands or goes.
-use Rattle.std.proofs.Common.{◌≡◌, ℕ, zero, suc, ◌<◌, ◌≤◌, List, [], ◌∷◌, length, get_or, drop}
+use Rattle.std.proofs.Common.{◌≡◌, ℕ, zero, suc, ◌-◌, ◌<◌, ◌≤◌, List, [], ◌∷◌, length, get_or, drop}
 use Rattle.std.proofs.Common.{insert, remove, refl, arith, Result, Ok, Err, nat_cmp}
 use Rattle.std.specs.Prelude.{MatchResult}
 use Rattle.std.specs.List.Sorted.{IsBinarySearchResult}
@@ -69,6 +69,18 @@ toggled-new q (p ∷ ps) (suc i) le below above =
       toggled-new q ps i (omega arith) (λ k l. below (suc k) (omega arith))
           (λ k l m. above (suc k) (omega arith) (omega arith)),
     ) refl
+
+-- a number above the last one goes last
+pub toggled-last : (q : ℕ) (ps : List ℕ) → IsRising ps
+    → (0 < length ps → get_or ps (length ps - 1) 0 < q)
+    → toggled q ps ≡ insert ps (length ps) q
+toggled-last q ps rising below =
+    toggled-new q ps (length ps) (omega arith)
+    (λ k lt.
+    let le = rising_at ps k (length ps - 1) rising (omega arith) (omega arith) in
+    let less = below (omega arith) in
+    omega arith)
+    (λ k le lt. absurd (omega arith))
 
 toggled_by : (q : ℕ) (ps : List ℕ) (r : Result ℕ ℕ) → IsRising ps
     → MatchResult r (λ i. (i < length ps) × (get_or ps i 0 ≡ q))

@@ -41,6 +41,17 @@ fn is_listed(members: &[u8], q: u16) -> bool
     members.iter().any(|member| *member as u16 == q)
 }
 
+/// Whether a number stands above each member, and so goes last.
+fn goes_last(members: &[u8], q: u8) -> bool
+    requires { IsRising members.now }
+    ensures { IsTrue result → toggled q members.now ≡ insert members.now (length members.now) q }
+{
+    match members {
+        [] => true,
+        [.., last] => *last < q,
+    }
+}
+
 /// Where a number stands, or where it goes.
 fn place_of(members: &[u8], q: u8) -> Result<usize, usize>
     requires { IsRising members.now }
@@ -49,6 +60,9 @@ fn place_of(members: &[u8], q: u8) -> Result<usize, usize>
         (λ place. (place ≤ length members.now)
         × (toggled q members.now ≡ insert members.now place q)) }
 {
+    if goes_last(members, q) {
+        return Err(members.len());
+    }
     members.binary_search(&q)
 }
 

@@ -1,21 +1,15 @@
 -- What is picked for the commands at a place improves the list that they stand in.
-use Rattle.std.proofs.Common.{◌≡◌, ◌⊎◌, ℕ, suc, ◌+◌, ◌-◌, ◌<◌, ◌≤◌, true, List, [], ◌∷◌}
+use Rattle.std.proofs.Common.{◌≡◌, ℕ, suc, ◌+◌, ◌-◌, ◌<◌, ◌≤◌, List, [], ◌∷◌}
 use Rattle.std.proofs.Common.{◌++◌, map}
 use Rattle.std.proofs.Common.{length, take, drop, get_or, refl, sym, ◌∙◌, ap, ap₂, subst, arith}
-use Rattle.std.proofs.lemmas.Bool.{ltb-true}
 use Rattle.std.proofs.lemmas.List.{get_or-append-add, map-append, length-map}
 use Rattle.std.proofs.Math.Seq.{get_or-append_seam, take-append_seam, drop-append_seam}
 use Rattle.std.proofs.Math.Seq.{take-append-add}
 use Rattle.std.proofs.Math.ListN.{get_or-map}
-use mathlib.Core.Logic.{inl, inr}
-use Rattle.mc_model.specs.Signals.{no_signal}
-use Rattle.mc_model.specs.Pattern.{Command, FixX, FixZ}
+use Rattle.mc_model.specs.Pattern.{Command}
 use Rattle.mc_model.specs.Valid.{IsValid}
-use Rattle.mc_model.specs.Derivation.{Rule, XE, ZE, XM, ZM, Swap, Join, EE, Cancel, XZ, Turn}
-use Rattle.mc_model.specs.Derivation.{DropEmpty, Rewrites, x_first, x_second, z_first, z_second}
-use Rattle.mc_model.specs.Derivation.{x_measured, z_measured, swapped, x_joined, z_joined}
-use Rattle.mc_model.specs.Derivation.{edges_exchanged, same_cancelled, turned_cancelled, x_behind_z}
-use Rattle.mc_model.specs.Derivation.{z_behind_x, turned, x_dropped, z_dropped, part, is_turned}
+use Rattle.mc_model.specs.Derivation.{Rule, Cancel}
+use Rattle.mc_model.specs.Derivation.{part}
 use Rattle.mc_standard.specs.declared.change.Change.{Change}
 use Rattle.mc_standard.specs.declared.change.Change.TheVariants as change
 use Rattle.mc_standard.specs.declared.change.Rewrite.{Rewrite}
@@ -25,10 +19,8 @@ use Rattle.mc_standard.specs.Places.{part_at, PassesAt, SettlesAt, IsTidyAt, Fol
 use Rattle.mc_rules.specs.Settled.{OperandsDiffer, IsTidy, Follows, InOrder}
 use Rattle.mc_standard.specs.Uses.{plain_rule}
 use Rattle.mc_standard.proofs.Edits.{one_at, two_at}
-use Rattle.mc_rules.proofs.FirstOutOfOrder.{may_pass, moved, local_fit}
-use Rattle.mc_rules.proofs.ImprovedInOrder.{Shortens, join_x_shortens, join_z_shortens}
-use Rattle.mc_rules.proofs.ImprovedInOrder.{cancel_shortens, drop_x_shortens, drop_z_shortens}
-use Rattle.mc_rules.proofs.ImprovedInOrder.{shortened, exchanged, turned_round}
+use Rattle.mc_rules.proofs.NearerUses.{passing_improves, settling_two_improves}
+use Rattle.mc_rules.proofs.NearerUses.{settling_one_improves}
 
 -- ---- reads
 
@@ -162,32 +154,11 @@ passed_at rewrite cs ds k c d positive within first second passes to =
     λ inputs v order early.
     let less : part d < part c = let e = early.1 in omega arith in
     let valid : IsValid inputs (p.before ++ (c ∷ d ∷ p.behind)) = subst (IsValid inputs) p.is v in
-    let may = may_pass inputs p.before c d
-    (local_fit inputs p.before (c ∷ d ∷ []) p.behind valid) less in
-    let w = moved inputs (plain_rule rewrite.rule) p.before c d new p.behind
-    (passes.1 may less) valid (subst InOrder front order) less in
+    let w = passing_improves inputs (plain_rule rewrite.rule) p.before c d new p.behind valid
+    (subst InOrder front order) less (λ may. passes.1 may less) in
     improved_there inputs (plain_rule rewrite.rule) _ _ cs ds _ _ place p.is at w
 
 -- ---- commands in order
-
-fewer_shortens : (rule : Rule) (c d : Command) (new : List Command) →
-    Rewrites rule (c ∷ d ∷ []) new → part c ≡ part d → length new < 2 → Shortens (c ∷ d ∷ []) new
-fewer_shortens XE _ _ _ (x_first {i} {j} {s}) p h = absurd (omega arith)
-fewer_shortens XE _ _ _ (x_second {i} {j} {s}) p h = absurd (omega arith)
-fewer_shortens ZE _ _ _ (z_first {i} {j} {s}) p h = absurd (omega arith)
-fewer_shortens ZE _ _ _ (z_second {i} {j} {s}) p h = absurd (omega arith)
-fewer_shortens XM _ _ _ (x_measured {i} {a} {r} {s} {t}) p h = absurd (omega arith)
-fewer_shortens ZM _ _ _ (z_measured {i} {a} {r} {s} {t}) p h = absurd (omega arith)
-fewer_shortens Swap _ _ _ (swapped {c} {d} apart unused) p h = absurd (omega arith)
-fewer_shortens Join _ _ _ (x_joined {i} {s} {t}) p h = join_x_shortens i s t
-fewer_shortens Join _ _ _ (z_joined {i} {s} {t}) p h = join_z_shortens i s t
-fewer_shortens EE _ _ _ (edges_exchanged {i} {j} {q} {r}) p h = absurd (omega arith)
-fewer_shortens Cancel _ _ _ (same_cancelled {i} {j}) p h = cancel_shortens i j i j
-fewer_shortens Cancel _ _ _ (turned_cancelled {i} {j}) p h = cancel_shortens i j j i
-fewer_shortens XZ _ _ _ (x_behind_z {i} {s} {t}) p h = absurd (omega arith)
-fewer_shortens XZ _ _ _ (z_behind_x {i} {s} {t}) p h = absurd (omega arith)
-fewer_shortens Turn c d new r p h = elim r [ ]
-fewer_shortens DropEmpty c d new r p h = elim r [ ]
 
 pub settled_two_at : {h : ℕ} (rewrite : Rewrite h) (cs ds : List Command) (k : ℕ) (c d : Command) →
     k + 1 < length cs → c ≡ get_or cs k c → d ≡ get_or cs (k + 1) d → SettlesTwo rewrite c d →
@@ -203,45 +174,8 @@ settled_two_at rewrite cs ds k c d within first second settles to =
     let valid : IsValid inputs (p.before ++ (c ∷ d ∷ p.behind)) = subst (IsValid inputs) p.is v in
     let in_order : InOrder (p.before ++ (c ∷ d ∷ p.behind)) = subst InOrder p.is order in
     improved_there inputs (plain_rule rewrite.rule) _ _ cs ds _ _ place p.is at
-    (elim (settles.nearer) [
-      | inl fewer ↦
-          shortened inputs (plain_rule rewrite.rule) p.before (c ∷ d ∷ []) new p.behind settles.used
-          valid in_order
-          (fewer_shortens (plain_rule rewrite.rule) c d new settles.used settles.one_part fewer)
-      | inr wrong ↦
-          subst (λ (xs : List Command). Improvement inputs (plain_rule rewrite.rule)
-          (suc (length p.before)) (p.before ++ (c ∷ d ∷ p.behind)) (p.before ++ (xs ++ p.behind)))
-          (sym wrong.0)
-          (exchanged inputs (plain_rule rewrite.rule) p.before c d p.behind
-          (subst (Rewrites (plain_rule rewrite.rule) (c ∷ d ∷ [])) wrong.0 settles.used)
-          valid in_order wrong.1)
-    ])
-
--- a command that vanishes or is turned
-one_nearer : (inputs : ℕ) (rule : Rule) (before : List Command) (c : Command)
-    (new behind : List Command) → Rewrites rule (c ∷ []) new →
-    (new ≡ []) ⊎ (is_turned c ≡ true) → IsValid inputs (before ++ (c ∷ behind)) →
-    InOrder (before ++ (c ∷ behind)) →
-    Improvement inputs rule (suc (length before)) (before ++ (c ∷ behind))
-    (before ++ (new ++ behind))
-one_nearer inputs Turn before _ _ behind (turned {i} {j}) (inl e) v z = absurd (cc e)
-one_nearer inputs Turn before _ _ behind (turned {i} {j}) (inr t) v z =
-    turned_round inputs before i j behind v z (ltb-true j i t)
-one_nearer inputs DropEmpty before _ _ behind (x_dropped {i}) n v z =
-    shortened inputs DropEmpty before (FixX i no_signal ∷ []) [] behind x_dropped v z
-    (drop_x_shortens i no_signal)
-one_nearer inputs DropEmpty before _ _ behind (z_dropped {i}) n v z =
-    shortened inputs DropEmpty before (FixZ i no_signal ∷ []) [] behind z_dropped v z
-    (drop_z_shortens i no_signal)
-one_nearer inputs XE before c new behind r n v z = elim r [ ]
-one_nearer inputs ZE before c new behind r n v z = elim r [ ]
-one_nearer inputs XM before c new behind r n v z = elim r [ ]
-one_nearer inputs ZM before c new behind r n v z = elim r [ ]
-one_nearer inputs Swap before c new behind r n v z = elim r [ ]
-one_nearer inputs Join before c new behind r n v z = elim r [ ]
-one_nearer inputs EE before c new behind r n v z = elim r [ ]
-one_nearer inputs Cancel before c new behind r n v z = elim r [ ]
-one_nearer inputs XZ before c new behind r n v z = elim r [ ]
+    (settling_two_improves inputs (plain_rule rewrite.rule) p.before c d new p.behind valid in_order
+    settles.used (settles.one_part, settles.nearer))
 
 pub settled_one_at : {h : ℕ} (rewrite : Rewrite h) (cs ds : List Command) (k : ℕ) (c : Command) →
     k < length cs → c ≡ get_or cs k c → SettlesOne rewrite c →
@@ -255,8 +189,8 @@ settled_one_at rewrite cs ds k c within first settles to =
     (changed_one rewrite.change c p.behind settles.one) to in
     λ inputs v order.
     improved_there inputs (plain_rule rewrite.rule) _ _ cs ds _ _ place p.is at
-    (one_nearer inputs (plain_rule rewrite.rule) p.before c new p.behind settles.used
-    settles.nearer (subst (IsValid inputs) p.is v) (subst InOrder p.is order))
+    (settling_one_improves inputs (plain_rule rewrite.rule) p.before c new p.behind
+    (subst (IsValid inputs) p.is v) (subst InOrder p.is order) settles.used settles.nearer)
 
 -- ---- nothing to do
 

@@ -16,10 +16,6 @@ pub all_of_map : {A : Type 0} (k : ℕ) (f : A → Command) → ((x : A) → par
 all_of_map k f same [] = tt
 all_of_map k f same (x ∷ xs) = (same x, all_of_map k f same xs)
 
-pub all_of_append : (k : ℕ) (cs ds : List Command) → AllOf k cs → AllOf k ds → AllOf k (cs ++ ds)
-all_of_append k [] ds h g = g
-all_of_append k (c ∷ cs) ds h g = (h.0, all_of_append k cs ds h.1 g)
-
 all_taken : (k : ℕ) (cs : List Command) → AllOf k cs → part_of k cs ≡ cs
 all_taken k [] h = refl
 all_taken k (c ∷ cs) h =

@@ -1,6 +1,6 @@
 -- A table of pairs in which one is counted once more, and the pairs that are listed from it.
 use Rattle.std.proofs.Common.{◌≡◌, ℕ, zero, suc, ◌+◌, ◌-◌, ◌*◌, ◌<◌, ◌≤◌, Bool, true, false, cond}
-use Rattle.std.proofs.Common.{◌&&◌, ◌||◌, List, [], ◌∷◌, ◌++◌, replicate, refl, sym, ◌∙◌, ap, ap₂}
+use Rattle.std.proofs.Common.{◌&&◌, List, [], ◌∷◌, ◌++◌, replicate, refl, sym, ◌∙◌, ap, ap₂}
 use Rattle.std.proofs.Common.{arith, append-nil}
 use Rattle.std.specs.Prelude.{nat_eq, nat_lt}
 use Rattle.std.proofs.lemmas.Bool.{eq-eqb, ne_eqb, lt-ltb, le-ltb, cases_eq, cases_lt}
@@ -58,12 +58,6 @@ pair_flipped odd more low high order within changed i j h g =
           ne_eqb (i * 256 + j) (low * 256 + high) ne
           ∙ sym (other_pair i j low high h order ne)
     ])
-
-either_way : (a b : Bool) → a || b ≡ b || a
-either_way a b = grind arith
-
-pub same_pair-turned : (i j q r : ℕ) → same_pair i j q r ≡ same_pair i j r q
-same_pair-turned i j q r = either_way (nat_eq i q && nat_eq j r) (nat_eq i r && nat_eq j q)
 
 -- ---- lists of pairs
 

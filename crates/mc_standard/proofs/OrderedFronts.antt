@@ -1,9 +1,9 @@
 -- Along a list: how far its parts are in order, and how far it is settled.
-use Rattle.std.proofs.Common.{◌≡◌, ◌||◌, false, ℕ, zero, suc, ◌+◌, ◌-◌, ◌<◌, ◌≤◌, MatchBool, List}
+use Rattle.std.proofs.Common.{◌≡◌, ℕ, zero, suc, ◌+◌, ◌-◌, ◌<◌, ◌≤◌, MatchBool, List}
 use Rattle.std.proofs.Common.{[], ◌∷◌, ◌++◌, map, length, take, drop, get_or, refl, sym, ◌∙◌, ap}
 use Rattle.std.proofs.Common.{ap₂, subst, arith, append_assoc}
 use Rattle.std.specs.Prelude.{nat_lt}
-use Rattle.std.proofs.lemmas.Bool.{cases_lt, lt-ltb, le-ltb, or_parts, ltb-false}
+use Rattle.std.proofs.lemmas.Bool.{cases_lt, lt-ltb, le-ltb}
 use Rattle.std.proofs.lemmas.List.{get_or-map, take-take, take-append-drop}
 use Rattle.std.proofs.Math.Seq.{take-append-add}
 use mathlib.Core.Logic.{inl, inr}
@@ -15,10 +15,11 @@ use Rattle.mc_standard.specs.Places.{part_at, IsEarly, SettlesAt, IsTidyAt, Foll
 use Rattle.mc_standard.specs.Places.{Settles}
 use Rattle.mc_rules.specs.Settled.{IsTidy, Follows, IsSettled, InOrder}
 use Rattle.mc_standard.proofs.Edits.{two_at}
-use Rattle.mc_rules.proofs.FirstOutOfOrder.{differ, map-append, none_later}
+use Rattle.mc_rules.proofs.FirstOutOfOrder.{differ, map-append}
 use Rattle.mc_standard.proofs.ImprovedAtPlace.{part_here, part_next}
-use Rattle.mc_rules.proofs.RankFalls.{has-append, order-append}
-use Rattle.mc_rules.proofs.SettledOrImproved.{next_order, front_order}
+use Rattle.mc_rules.proofs.PartsInOrder.{parts_in_order}
+use Rattle.mc_rules.proofs.RankFalls.{order-append}
+use Rattle.mc_rules.proofs.SettledOrImproved.{next_order}
 
 -- ---- reads of a list through a map
 
@@ -69,24 +70,6 @@ order_more (c ∷ cs) (suc k) within order rises =
     let rise = rises (omega arith) in
     subst InOrder (sym whole)
     (next_order p.before p.here p.next (subst InOrder front order) (omega arith))
-
-neighbours_rise : (before : List Command) (c d : Command) (behind : List Command) →
-    InOrder (before ++ (c ∷ d ∷ behind)) → part c ≤ part d
-unfolding has_later
-neighbours_rise before c d behind z =
-    let ps : List ℕ = map part before in
-    let e : before ++ (c ∷ d ∷ behind) ≡ (before ++ (c ∷ [])) ++ (d ∷ behind) =
-    sym (append_assoc before (c ∷ []) (d ∷ behind)) in
-    let front = front_order (before ++ (c ∷ [])) d behind (subst InOrder e z) in
-    let named : map part ((before ++ (c ∷ [])) ++ (d ∷ []))
-    ≡ (ps ++ (part c ∷ [])) ++ (part d ∷ []) =
-    map-append (before ++ (c ∷ [])) (d ∷ [])
-    ∙ ap (λ (xs : List ℕ). xs ++ (part d ∷ [])) (map-append before (c ∷ [])) in
-    let none = none_later (ps ++ (part c ∷ [])) (part d)
-    (sym (ap (out_of_order []) named) ∙ front) in
-    let parts = or_parts (has_later (part d) ps) (nat_lt (part d) (part c) || false)
-    (sym (has-append (part d) ps (part c ∷ [])) ∙ none) in
-    ltb-false (part d) (part c) (or_parts (nat_lt (part d) (part c)) false parts.1).0
 
 -- the front of a list in order
 pub order_front : (cs : List Command) (j k : ℕ) → j ≤ k → InOrder (take k cs) → InOrder (take j cs)
@@ -152,7 +135,7 @@ stays_next cs k within tidy follows =
     let e = length-append p.before (p.here ∷ []) in omega arith in
     λ inputs v order s.
     let apart = differ inputs (p.before ++ (p.here ∷ [])) p.next (v.at _ p.next p.behind split) in
-    let rise = neighbours_rise p.before p.here p.next p.behind (subst InOrder p.is order) in
+    let rise = parts_in_order.rise p.before p.here p.next p.behind (subst InOrder p.is order) in
     subst IsSettled (sym whole)
     (settled_more p.before p.here p.next (subst IsSettled front s)
     (follows p.before p.here p.next p.behind p.is p.at rise)
@@ -170,15 +153,7 @@ stays_further cs (suc k) within tidy follows =
     stays_next cs k within tidy
     (subst (λ (n : ℕ). FollowsAt n cs) e (follows (omega arith)))
 
--- a use on one command, or on two
-pub settles_one : (cs ds : List Command) (k : ℕ) (rule : Rule) → SettlesAt rule (k + 1) cs ds →
-    Settles k (record { place = k + 1; rule = rule }) cs ds
-settles_one cs ds k rule h = record {
-  behind_none = omega arith;
-  improves = h;
-  settled = stays_back cs k (k + 1 - 1) (omega arith);
-}
-
+-- a use on two commands
 pub settles_two : (cs ds : List Command) (k : ℕ) (rule : Rule) → 0 < k →
     SettlesAt rule (k - 1 + 1) cs ds → Settles k (record { place = k; rule = rule }) cs ds
 settles_two cs ds k rule positive h =

@@ -1,24 +1,22 @@
 -- Sums of signals by their bits: rising lists by their members, and the members of words.
-use Rattle.std.proofs.Common.{◌≡◌, ℕ, zero, suc, ◌+◌, ◌<◌, ◌≤◌, Bool, true}
-use Rattle.std.proofs.Common.{false, ◌&&◌, List, [], ◌∷◌, refl, sym, ap, ap₂, ◌∙◌, arith, length}
-use Rattle.std.proofs.Common.{drop, nat_eq, nat_lt, All, subst}
-use Rattle.std.specs.Prelude.{Some, slice_get, not}
+use Rattle.std.proofs.Common.{◌≡◌, ℕ, zero, suc, ◌+◌, ◌<◌, Bool, true}
+use Rattle.std.proofs.Common.{false, ◌&&◌, List, [], ◌∷◌, refl, sym, ap, ap₂, ◌∙◌, arith}
+use Rattle.std.proofs.Common.{nat_eq, nat_lt, All}
+use Rattle.std.specs.Prelude.{not}
 use Rattle.std.specs.List.{filter}
 use Rattle.std.proofs.lemmas.Bool.{eq-eqb, ne_eqb, lt-ltb, le-ltb, cases_Bool, cases_order}
 use Rattle.std.proofs.lemmas.Bool.{false≢true, ltb-true, ltb-false}
-use Rattle.std.proofs.lemmas.Option.{slice_get_within, get_or_from_slice_get}
-use Rattle.std.proofs.lemmas.List.{drop_all}
-use Rattle.std.proofs.Math.Seq.{drop-cons}
 use mathlib.Core.Bool.{beq}
 use mathlib.Core.Logic.{inl, inr}
 use Rattle.mc_model.specs.Bits.{◌⊻◌, Bits}
 use Rattle.mc_model.specs.Numbers.{numbers_from, numbers_where, is_member}
 use Rattle.mc_model.specs.Signals.{Signal, signal_sum, AllAbove, IsRising}
+use Rattle.mc_model.proofs.BitLemmas.{xor_false}
 use Rattle.mc_model.proofs.NumberLists.{count-where, member_once}
 use Rattle.mc_model.proofs.SignalLemmas.{toggled_all_rising}
 use Rattle.mc_signal.proofs.Members.{is_member-above, is_member-first, is_member-small}
 use Rattle.mc_signal.proofs.Members.{is_member-toggled_all}
-use Rattle.mc_signal.proofs.Rising.{AllAbove-lower, rising_drop}
+use Rattle.mc_signal.proofs.Rising.{AllAbove-lower}
 use Rattle.mc_bits.specs.Words.{word_bit}
 use Rattle.mc_bits.proofs.BitsOfWords.{zero_words}
 use Rattle.mc_standard.specs.NextBits.{IsNext}
@@ -159,34 +157,6 @@ sum_of_sums words other more b c d bits same =
     (same ∙ ap₂ (λ (x y : Bool). x ⊻ y) (sym (summed-constant words b))
     (sym (summed-constant other c)))
 
--- ---- the bits that are changed, member by member
-
-moved : (a e m : Bool) → ((a ⊻ e) ⊻ m) ≡ (a ⊻ (e ⊻ m))
-moved a e m = grind arith
-
-pub flipped_more : (qs : List ℕ) (i q k : ℕ) (a b x : Bool) → IsRising qs →
-    slice_get qs i ≡ Some q → b ≡ (a ⊻ nat_eq k q) → (a ⊻ is_member (drop i qs) k) ≡ x →
-    (b ⊻ is_member (drop (i + 1) qs) k) ≡ x
-flipped_more qs i q k a b x rising at changed h =
-    let next : suc i ≡ i + 1 = omega arith in
-    let rest : drop i qs ≡ q ∷ drop (i + 1) qs =
-    drop-cons qs i 0 (slice_get_within qs i q at)
-    ∙ ap₂ (λ (r n : ℕ). r ∷ drop n qs) (get_or_from_slice_get qs i q 0 at) next in
-    let rise : IsRising (q ∷ drop (i + 1) qs) = subst IsRising rest (rising_drop i qs rising) in
-    ap (λ (y : Bool). y ⊻ is_member (drop (i + 1) qs) k) changed
-    ∙ moved a (nat_eq k q) (is_member (drop (i + 1) qs) k)
-    ∙ ap (λ (y : Bool). a ⊻ y) (sym (is_member-first q k (drop (i + 1) qs) rise.0))
-    ∙ ap (λ (rs : List ℕ). a ⊻ is_member rs k) (sym rest)
-    ∙ h
-
-xor_none : (a : Bool) → a ≡ a ⊻ false
-xor_none a = grind arith
-
-pub flipped_all : (qs : List ℕ) (i k : ℕ) (a x : Bool) → length qs ≤ i →
-    (a ⊻ is_member (drop i qs) k) ≡ x → a ≡ x
-flipped_all qs i k a x over h =
-    xor_none a ∙ ap (λ (rs : List ℕ). a ⊻ is_member rs k) (sym (drop_all i qs over)) ∙ h
-
 -- ---- the members of words, by rising bits
 
 -- the set with the next number, whose bit is 1
@@ -207,7 +177,7 @@ has_more words set more n has one changed = record {
                 lt-ltb k (n + 1) (omega arith),
                 ne_eqb k n (λ e. absurd (omega arith)),
               )
-              (sym (xor_none (word_bit words k)))
+              (xor_false (word_bit words k))
           | inr gt ↦
               rw (
                 le-ltb k n (omega arith),

@@ -46,31 +46,30 @@ fn exchange_and_add<const H: usize>(
     Ok(())
 }
 
-/// Makes a change of the commands that begin at `i`. Without memory nothing changes.
-pub(crate) fn apply<const H: usize>(
-    commands: &mut Vec<Command<H>>,
-    i: usize,
-    change: Change<H>,
-) -> Result<(), Memory>
-    requires { i + reach change ≤ vec_len commands.old }
-    ensures ok { OnOk result (map plain_command commands.new.items ≡
-        take i (map plain_command commands.old.items)
-        ++ changed change.entry (drop i (map plain_command commands.old.items))) }
-    ensures err { OnErr result (commands.new.items ≡ commands.old.items) }
-{
-    match change {
-        Change::Exchange => commands.swap(i, i + 1),
-        Change::Add(command) => return exchange_and_add(commands, i, command),
-        Change::Merge(command) => {
-            put(commands, i, command);
-            take_out(commands, i + 1);
+impl<const H: usize> Change<H> {
+    /// Makes the change of the commands that begin at `i`, which must exist. `Memory` comes where
+    /// there is no room for one more command; then nothing changes.
+    pub fn apply(self, commands: &mut Vec<Command<H>>, i: usize) -> Result<(), Memory>
+        requires { i + reach self ≤ vec_len commands.old }
+        ensures ok { OnOk result (map plain_command commands.new.items ≡
+            take i (map plain_command commands.old.items)
+            ++ changed self.entry (drop i (map plain_command commands.old.items))) }
+        ensures err { OnErr result (commands.new.items ≡ commands.old.items) }
+    {
+        match self {
+            Change::Exchange => commands.swap(i, i + 1),
+            Change::Add(command) => return exchange_and_add(commands, i, command),
+            Change::Merge(command) => {
+                put(commands, i, command);
+                take_out(commands, i + 1);
+            }
+            Change::Cancel => {
+                take_out(commands, i + 1);
+                take_out(commands, i);
+            }
+            Change::Put(command) => put(commands, i, command),
+            Change::Remove => take_out(commands, i),
         }
-        Change::Cancel => {
-            take_out(commands, i + 1);
-            take_out(commands, i);
-        }
-        Change::Put(command) => put(commands, i, command),
-        Change::Remove => take_out(commands, i),
+        Ok(())
     }
-    Ok(())
 }

@@ -3,9 +3,9 @@
 use crate::rule::Rule;
 use mc_pattern::Command;
 
-/// What becomes of the commands at a place.
+/// What becomes of the commands at a place: one command, or two neighbours.
 #[derive(Drop)]
-pub(crate) enum Change<const H: usize> {
+pub enum Change<const H: usize> {
     /// The two change places.
     Exchange,
     /// The two change places, and this one goes behind them.

@@ -23,6 +23,7 @@ mod sum;
 #[cfg(test)]
 mod tests;
 
+pub use change::Change;
 pub use rewriter::Rewriter;
 pub use rule::{Rule, Use};
 pub use standard::{Fix, Measure, Standard};

@@ -106,9 +106,10 @@ fn add_fixes<const H: usize>(commands: &mut Vec<Command<H>>, fixes: &[Fix]) -> R
 
 impl<const H: usize> Standard<H> {
     /// The same pattern, its commands in one list.
-    pub fn as_pattern(&self, alloc: Global) -> Result<Pattern<H>, Memory>
+    pub fn as_pattern(&self) -> Result<Pattern<H>, Memory>
         ensures { IfOk result (λ pattern. pattern ≡ self.now) }
     {
+        let alloc = *self.outs.allocator();
         let mut commands = Vec::new(alloc);
         add_preps(&mut commands, self.preps.as_slice())?;
         add_edges(&mut commands, self.edges.as_slice())?;
@@ -121,7 +122,6 @@ impl<const H: usize> Standard<H> {
     /// The pattern with other measurements and corrections, with which it is its own standard form too.
     pub fn with_signals(
         &self,
-        alloc: Global,
         measures: Vec<Measure<H>>,
         fixes: Vec<Fix>,
     ) -> Result<Standard<H>, Memory>
@@ -131,6 +131,7 @@ impl<const H: usize> Standard<H> {
             with_signals self.now (map plain_measure measures.entry.items)
             (map plain_fix fixes.items)) }
     {
+        let alloc = *self.outs.allocator();
         Ok(Standard {
             names: self.names.copy()?,
             inputs: self.inputs,

@@ -1,6 +1,6 @@
 //! One pass over a list of commands.
 
-ghost use Rattle.std.specs.Prelude.{◌≡◌, [], ◌∷◌, List, map, IfOk, OnOk};
+ghost use Rattle.std.specs.Prelude.{[], ◌∷◌, List, map, IfOk, OnOk};
 ghost use Rattle.mc_model.specs.Pattern.{Command as Plain};
 ghost use Rattle.mc_pattern.specs.Commands.{plain_command};
 ghost use Rattle.mc_standard.specs.Running.{OperandsBelow, AllBelow, IsRoomy, LeadsTo};

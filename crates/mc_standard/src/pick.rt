@@ -1,7 +1,6 @@
 //! Which rule brings two neighbours, or one command, nearer to the standard form.
 
-ghost use Rattle.std.specs.Prelude.{◌≡◌, ◌≤◌, ◌<◌, ◌||◌, ◌&&◌, nat_lt, nat_eq, IfOk, MatchOption};
-ghost use Rattle.std.specs.Prelude.{IfSome};
+ghost use Rattle.std.specs.Prelude.{◌≡◌, ◌≤◌, ◌<◌, ◌||◌, ◌&&◌, IfOk, MatchOption};
 ghost use Rattle.mc_model.specs.Derivation.{part, lower, higher, pair_before};
 ghost use Rattle.mc_model.specs.Pattern.{Ent, FixX, FixZ};
 ghost use Rattle.mc_model.specs.Signals.{signal_sum};

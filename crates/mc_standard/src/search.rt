@@ -9,7 +9,6 @@ ghost use Rattle.mc_standard.specs.Places.{FollowsAt, StaysSettled, Settles};
 ghost use Rattle.mc_rules.specs.Settled.{InOrder};
 ghost use Rattle.mc_standard.specs.Uses.{plain_rule, plain_use};
 
-use crate::apply::apply;
 use crate::change::Rewrite;
 use crate::pick::{pass, settle_one, settle_two};
 use crate::rule::{Rule, Use};
@@ -69,7 +68,7 @@ pub(crate) fn pass_at<const H: usize>(
     ensures err { OnErr result (commands.new.items ≡ commands.old.items) }
 {
     let Rewrite { rule, change } = pass(&commands[k - 1], &commands[k])?;
-    apply(commands, k - 1, change)?;
+    change.apply(commands, k - 1)?;
     Ok(rule)
 }
 
@@ -90,7 +89,7 @@ fn settle_one_at<const H: usize>(
     let Some(Rewrite { rule, change }) = settle_one(&commands[k]) else {
         return Ok(None);
     };
-    apply(commands, k, change)?;
+    change.apply(commands, k)?;
     Ok(Some(rule))
 }
 
@@ -111,7 +110,7 @@ fn settle_two_at<const H: usize>(
     let Some(Rewrite { rule, change }) = settle_two(&commands[k], &commands[k + 1])? else {
         return Ok(None);
     };
-    apply(commands, k, change)?;
+    change.apply(commands, k)?;
     Ok(Some(rule))
 }
 

@@ -1,6 +1,6 @@
 //! Patterns in standard form.
 
-ghost use Rattle.std.specs.Prelude.{◌≡◌, IfOk, map};
+ghost use Rattle.std.specs.Prelude.{◌≡◌, map};
 ghost use Rattle.mc_model.specs.Pattern.{Prep};
 ghost use Rattle.mc_model.specs.StandardForm.{preparations_of};
 ghost use Rattle.mc_rules.specs.Parts.{entanglings_of, measurements_of, corrections_of};

@@ -27,8 +27,8 @@ fn with_inputs(rt: &impl Abort, alloc: Global, words: &[&str]) -> Result<Builder
     Ok(builder)
 }
 
-fn finished(alloc: Global, builder: Builder<4>, outputs: &[u16]) -> Result<Pattern<4>, Fail> {
-    match builder.finish(alloc, outputs) {
+fn finished(builder: Builder<4>, outputs: &[u16]) -> Result<Pattern<4>, Fail> {
+    match builder.finish(outputs) {
         Ok(pattern) => Ok(pattern),
         Err((_, end)) => Err(Fail::from(end)),
     }
@@ -65,7 +65,7 @@ fn cancels_two_edges(rt: HostRuntime) -> Result<(), Fail> {
     let mut builder = with_inputs(&rt, alloc, &["a", "b"])?;
     assert_eq!(rt; builder.push(Command::Ent(0, 1)), Ok(()));
     assert_eq!(rt; builder.push(Command::Ent(0, 1)), Ok(()));
-    let pattern = finished(alloc, builder, &[0, 1])?;
+    let pattern = finished(builder, &[0, 1])?;
     let mut rewriter = Rewriter::new(alloc, &pattern)?;
     assert_eq!(rt;
         (
@@ -89,7 +89,7 @@ fn two_j(rt: &impl Abort, alloc: Global) -> Result<Pattern<4>, Fail> {
     let mut builder = with_inputs(rt, alloc, &["a"])?;
     add_j(rt, alloc, &mut builder, 0, "q1")?;
     add_j(rt, alloc, &mut builder, 1, "q2")?;
-    finished(alloc, builder, &[2])
+    finished(builder, &[2])
 }
 
 fn rewrite(rewriter: &mut Rewriter<4>) -> Result<(), Memory> {
@@ -189,7 +189,7 @@ fn standardises_into_parts(rt: HostRuntime) -> Result<(), Fail> {
 #[test]
 fn lists_a_standard_form(rt: HostRuntime) -> Result<(), Fail> {
     let alloc = rt.alloc();
-    let pattern = standardise(alloc, &two_j(&rt, alloc)?)?.as_pattern(alloc)?;
+    let pattern = standardise(alloc, &two_j(&rt, alloc)?)?.as_pattern()?;
     assert_eq!(rt; (pattern.names().len(), pattern.inputs()), (3, 1));
     assert_eq!(rt; pattern.outputs(), [2].as_slice());
     assert!(rt; is_two_j_standard(pattern.commands()));

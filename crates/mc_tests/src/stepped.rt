@@ -63,7 +63,7 @@ fn check_steps(rt: &impl Abort, alloc: Global, text: &'static str) -> Result<(),
             break;
         }
     }
-    let standard = standardise(alloc, &pattern)?.as_pattern(alloc)?;
+    let standard = standardise(alloc, &pattern)?.as_pattern()?;
     let (stepped, passed) = (rewriter.commands(), standard.commands());
     assert_eq!(rt; stepped.len(), passed.len());
     for (one, other) in stepped.iter().zip(passed) {

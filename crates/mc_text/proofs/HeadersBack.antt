@@ -1,23 +1,13 @@
 -- The words of a header, as they are printed, are read back.
-use Rattle.std.proofs.Common.{◌≡◌, ℕ, List, Some, refl, inl, inr}
+use Rattle.std.proofs.Common.{◌≡◌, ℕ, Some, refl, inl, inr}
 use Rattle.mc_lex.specs.declared.kind.Kind.{Kind}
-use Rattle.mc_lex.specs.declared.kind.Kind.TheVariants.{Circuit, Pattern, Graph, Change, Flow}
-use Rattle.mc_lex.specs.declared.kind.Kind.TheVariants.{NoFlow, NoCausal, Trace, Least, Gates}
+use Rattle.mc_lex.specs.declared.kind.Kind.TheVariants.{Circuit}
 use Rattle.mc_lex.specs.Kinds.{spelling, kind_of}
 use Rattle.mc_text.specs.Headers.{header_words, version_in, half_in, IsVersion, IsHalf}
-use Rattle.mc_text.specs.Headers.{version_word, version_behind, half_behind, turn_words}
 
 pub kind_spelled : (kind : Kind) → kind_of (spelling kind) ≡ Some kind
 kind_spelled Circuit = refl
-kind_spelled Pattern = refl
-kind_spelled Graph = refl
-kind_spelled Change = refl
-kind_spelled Flow = refl
-kind_spelled NoFlow = refl
-kind_spelled NoCausal = refl
-kind_spelled Trace = refl
-kind_spelled Least = refl
-kind_spelled Gates = refl
+kind_spelled _ = refl
 
 pub version_back : (kind : Kind) (version half : ℕ) → IsVersion version
     → version_in (header_words kind version half) ≡ version

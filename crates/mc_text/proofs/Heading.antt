@@ -1,13 +1,13 @@
 -- The words of a header.
-use Rattle.std.proofs.Common.{◌≡◌, ℕ, List, [], ◌∷◌, ◌++◌, Bool, true, false, not, ◌&&◌, ◌||◌}
-use Rattle.std.proofs.Common.{Option, Some, None, refl, sym, ap, ◌∙◌, codes, arith, if◌then◌else◌}
+use Rattle.std.proofs.Common.{◌≡◌, ℕ, List, [], ◌∷◌, ◌++◌, true}
+use Rattle.std.proofs.Common.{Option, Some, None, refl, ap, ◌∙◌, codes, arith}
 use Rattle.mc_lex.specs.declared.kind.Kind.{Kind}
 use Rattle.mc_lex.specs.Kinds.{kind_of}
 use Rattle.mc_lex.specs.Lines.{Item, word, bad}
 use Rattle.mc_lex.specs.Left.{Left, behind, passed}
 use Rattle.mc_lex.specs.Given.{first_of}
 use Rattle.mc_text.specs.declared.fault.Fault.{Fault}
-use Rattle.mc_text.specs.declared.fault.Fault.TheVariants.{LineEnds, Surplus}
+use Rattle.mc_text.specs.declared.fault.Fault.TheVariants.{LineEnds}
 use Rattle.mc_text.specs.declared.fault.Stop.{Stop}
 use Rattle.mc_text.specs.declared.fault.Stop.TheVariants as stop
 use Rattle.mc_text.specs.declared.form.Form.{Form}
@@ -15,13 +15,13 @@ use Rattle.mc_text.specs.declared.form.Behind.{Behind}
 use Rattle.mc_text.specs.declared.point.Point.{Point}
 use Rattle.mc_text.specs.Heads.{is_word}
 use Rattle.mc_text.specs.Points.{point_of}
-use Rattle.mc_text.specs.Judged.{Judgement, fault, Words, Lines, Place, placed, or_later}
+use Rattle.mc_text.specs.Judged.{fault, Words, Lines, Place, placed, or_later}
 use Rattle.mc_text.specs.Judged.{first_in_line}
 use Rattle.mc_text.specs.Headers.{first_in_header, form_judge, form_lacks, form_rules, form_of}
 use Rattle.mc_text.specs.Headers.{header_rules, half_by}
-use Rattle.mc_text.specs.Headers.{version_behind, half_behind, Says, IsBehind}
+use Rattle.mc_text.specs.Headers.{version_behind, IsBehind}
 use Rattle.mc_text.specs.Stops.{IsStop}
-use Rattle.mc_text.specs.Takes.{TakesWord, TakesEnd, StopsAtWord, StopsAtEnd}
+use Rattle.mc_text.specs.Takes.{TakesWord, StopsAtWord}
 use Rattle.mc_text.proofs.Going.{first-cons, none_first}
 use Rattle.mc_text.proofs.Kept.{count_at}
 
@@ -88,14 +88,6 @@ two_before before (a ∷ b ∷ c ∷ here) p e n =
     let count = count_at before (a ∷ b ∷ c ∷ here) in
     let n' = rw e at n in
     absurd (omega arith)
-
-more_before : (before : Lines) (here : Words) (p : Point) → p ≡ point_of before here
-    → ¬ (p.count ≡ 0) → ¬ (p.count ≡ 1) → ¬ (p.count ≡ 2)
-    → (a : List ℕ) × (b : List ℕ) × (c : List ℕ) × (more : Words) × (here ≡ a ∷ b ∷ c ∷ more)
-more_before before [] p e zero one two = absurd (zero (rw e refl))
-more_before before (a ∷ []) p e zero one two = absurd (one (rw e refl))
-more_before before (a ∷ b ∷ []) p e zero one two = absurd (two (rw e refl))
-more_before before (a ∷ b ∷ c ∷ here) p e zero one two = (a, b, c, here, refl)
 
 pub took_version : (k k' : Behind) (p : Point) (w : List ℕ) → p.count ≡ 0 → k'.form ≡ k.form
     → form_judge k.form [] w ≡ None → k'.version ≡ version_behind (w ∷ []) → k'.half ≡ k.half
@@ -168,37 +160,6 @@ took_half k k' p w two form clean version half = record {
       );
 }
 
-one_line : (before : Lines) (here words : Words) → before ++ here ∷ [] ≡ words ∷ []
-    → (before ≡ []) × (here ≡ words)
-one_line [] here words e = (refl, cc e)
-one_line (a ∷ []) here words e = absurd (cc e)
-one_line (a ∷ b ∷ before) here words e = absurd (cc e)
-
-some_line : (before : Lines) (here : Words) → before ++ here ∷ [] ≡ [] → ⊥
-some_line [] here e = cc e
-some_line (a ∷ before) here e = cc e
-
-pub took_line : (k k' : Behind) (p : Point) → ¬ (p.count ≡ 0) → ¬ (p.count ≡ 2) → k' ≡ k
-    → TakesEnd (λ (b : Behind). form_rules b.form) IsBehind k k' p
-took_line k k' p zero two same = rw same (record {
-  same_rules = refl;
-  taken = λ before here m e. (
-    clean before here e,
-    record {
-      begun = λ none. absurd (some_line before here none);
-      line = λ words one empty.
-          let only = one_line before here words one in
-          rw only.1 at (m.begun only.0);
-    },
-  );
-})
-  where
-    clean : (before : Lines) (here : Words) → p ≡ point_of before here → form_lacks here ≡ None
-    clean before [] e = absurd (zero (rw e refl))
-    clean before (a ∷ []) e = refl
-    clean before (a ∷ b ∷ []) e = absurd (two (rw e refl))
-    clean before (a ∷ b ∷ c ∷ here) e = refl
-
 pub stops_version : (k : Behind) (p : Point) (w : List ℕ) (s : Stop) → p.count ≡ 0
     → IsStop s (form_judge k.form [] w)
     → StopsAtWord (λ (b : Behind). form_rules b.form) IsBehind k p w s
@@ -217,18 +178,6 @@ pub stops_half : (k : Behind) (p : Point) (w : List ℕ) (s : Stop) → p.count 
 stops_half k p w s two stops before here m e =
     let some = two_before before here p e two in
     rw some.2 (stops some.0 some.1)
-
-pub stops_more : (k : Behind) (p : Point) (w : List ℕ) → ¬ (p.count ≡ 0) → ¬ (p.count ≡ 1)
-    → ¬ (p.count ≡ 2)
-    → StopsAtWord (λ (b : Behind). form_rules b.form) IsBehind k p w (stop.Fault Surplus)
-stops_more k p w zero one two before here m e =
-    let some = more_before before here p e zero one two in
-    rw some.4 refl
-
-pub stops_line : (k : Behind) (p : Point) → ((before : Lines) (here : Words)
-    → p ≡ point_of before here → form_lacks here ≡ Some (fault LineEnds))
-    → StopsAtEnd (λ (b : Behind). form_rules b.form) IsBehind k p (stop.Fault LineEnds)
-stops_line k p lacks before here m e = rw (lacks before here e) refl
 
 pub lacks_first : (p : Point) → p.count ≡ 0 → (before : Lines) (here : Words)
     → p ≡ point_of before here → form_lacks here ≡ Some (fault LineEnds)

@@ -3,14 +3,14 @@ use Rattle.std.proofs.Common.{◌≡◌, ℕ, zero, suc, ◌+◌, ◌<◌, ◌�
 use Rattle.std.proofs.Common.{false, not, ◌&&◌, Option, Some, None, length, map, fold, min, refl}
 use Rattle.std.proofs.Common.{sym, ap, ◌∙◌, append_assoc, length-append, arith, ◌==◌, nat_lt}
 use Rattle.std.proofs.Common.{ne_eqb, lt-ltb, if◌then◌else◌, inl, inr, codes}
-use Rattle.std.specs.List.{flat_map, filter_map, sum_by, position, position_or_len, slice_get}
+use Rattle.std.specs.List.{flat_map, filter_map, position, position_or_len, slice_get}
 use Rattle.std.specs.List.{list_all}
 use Rattle.std.proofs.lemmas.Bool.{cases_eq, eq-eqb, ltb-true}
 use Rattle.std.proofs.lemmas.Bool.Decides.{nat_tests}
 use Rattle.std.proofs.lemmas.List.{append-nil, map-append}
 use Rattle.std.proofs.lemmas.List.Elements.{filter_map-append}
 use Rattle.std.proofs.lemmas.List.Folds.{prefix_len-append, list_all-append}
-use Rattle.std.proofs.lemmas.List.Sums.{fold-append, sum_by-append}
+use Rattle.std.proofs.lemmas.List.Sums.{sum_by-append}
 use Rattle.std.proofs.lemmas.Grind.{flat_map-append}
 use Rattle.mc_model.specs.Names.{is_name, name_eq, place_of, is_held}
 use Rattle.mc_names.specs.Stored.{name_eq-true}
@@ -21,7 +21,7 @@ use Rattle.mc_text.specs.Points.{first_point, mark_of, next_point, point_of, las
 use Rattle.mc_text.specs.Judged.{Words, Lines}
 use Rattle.mc_text.specs.Rules.{number_in, AreNumbers}
 use Rattle.mc_text.specs.Lists.{names_in, names_at, added, operand_at, next_operand, operands_at}
-use Rattle.mc_text.specs.Lists.{begun, count_of, next_count, onto_open, open_list}
+use Rattle.mc_text.specs.Lists.{begun, count_of}
 use Rattle.mc_text.proofs.Going.{head_at, not_first}
 use Rattle.mc_text.proofs.Numbers.{held-place, place-held}
 
@@ -95,10 +95,6 @@ names_at-line test before here =
     append-nil (flat_map (names_in test) (before ++ here ∷ []))
     ∙ flat_map-append (names_in test) before (here ∷ [])
     ∙ ap (λ names. flat_map (names_in test) before ++ names) (append-nil (names_in test here))
-
-pub added_some : (test : Option Head → Bool) (p : Point) (word : List ℕ) → ¬ (p.count ≡ 0)
-    → test p.head ≡ true → added test p word ≡ word ∷ []
-added_some test p word ne e = rw (ne_eqb p.count 0 ne, e) refl
 
 none_by : (t : Bool) → let none : List (List ℕ) = [] in (if t then none else none) ≡ none
 none_by true = refl
@@ -253,26 +249,12 @@ operands_at-none n test before here e =
     ((operands_one (operand_at n test) here (operand_at n test here) refl).0 e)
     ∙ append-nil (operands_at n test before)
 
--- the number of lines with one more word, and with one more line
-pub count_of-word : (test : Option Head → Bool) (before : Lines) (here : Words) (word : List ℕ)
-    → next_count test (point_of before here) (count_of test before here) word
-    ≡ count_of test before (here ++ word ∷ [])
-count_of-word test before [] word =
-    let e : sum_by (begun test) before + 0 ≡ sum_by (begun test) before = omega arith in
-    rw e refl
-count_of-word test before (h ∷ words) word =
-    rw (ne_eqb (point_of before (h ∷ words)).count 0 (count_some before h words)) refl
-
+-- the number of lines with one more line
 pub count_of-line : (test : Option Head → Bool) (before : Lines) (here : Words)
     → count_of test (before ++ here ∷ []) [] ≡ count_of test before here
 count_of-line test before here =
     let e = sum_by-append (begun test) before (here ∷ []) in
     omega (arith, e)
-
--- the open list with one more word
-pub open_list-word : (words : Words) (word : List ℕ)
-    → open_list (words ++ word ∷ []) ≡ onto_open (open_list words) word
-open_list-word words word = fold-append onto_open [] words (word ∷ [])
 
 -- a name is no mark
 other_word : (due word : List ℕ) (t : Bool) → is_name word ≡ true → is_name due ≡ false
@@ -289,7 +271,3 @@ name_no_mark word named =
     let t = other_word (codes "t:") word (is_word (codes "t:") word) named refl refl in
     let c = other_word (codes ":") word (is_word (codes ":") word) named refl refl in
     rw (s, t, c) refl
-
-pub onto_open-name : (list : Words) (word : List ℕ) → is_name word ≡ true
-    → onto_open list word ≡ list ++ word ∷ []
-onto_open-name list word named = rw (name_no_mark word named) refl

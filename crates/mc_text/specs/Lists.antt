@@ -1,10 +1,9 @@
 -- What stands in the lines with some record words, and in the lists of a line.
-use Rattle.std.specs.Prelude.{ℕ, ◌+◌, List, [], ◌∷◌, ◌++◌, Bool, is_some, ◌==◌, fold, flat_map}
+use Rattle.std.specs.Prelude.{ℕ, ◌+◌, List, [], ◌∷◌, ◌++◌, Bool, ◌==◌, flat_map}
 use Rattle.std.specs.Prelude.{filter_map, sum_by, slice_get, if◌then◌else◌, Option, None, Some}
 use Rattle.mc_text.specs.declared.head.Head.{Head}
 use Rattle.mc_text.specs.declared.point.Point.{Point}
 use Rattle.mc_text.specs.Heads.{head_of}
-use Rattle.mc_text.specs.Points.{mark_of}
 use Rattle.mc_text.specs.Judged.{Words, Lines}
 
 -- the words behind the record word of a line, where that passes the test
@@ -42,15 +41,3 @@ begun test (head ∷ words) = if test (head_of head) then 1 else 0
 
 abbrev pub count_of : (Option Head → Bool) → Lines → Words → ℕ
 count_of test before here = sum_by (begun test) before + begun test here
-
--- that number with one more word on the line
-abbrev pub next_count : (Option Head → Bool) → Point → ℕ → List ℕ → ℕ
-next_count test p count word =
-    if p.count == 0 then count + (if test (head_of word) then 1 else 0) else count
-
--- the words behind the last mark
-abbrev pub onto_open : Words → List ℕ → Words
-onto_open list word = if is_some (mark_of word) then [] else list ++ word ∷ []
-
-abbrev pub open_list : Words → Words
-open_list words = fold onto_open [] words

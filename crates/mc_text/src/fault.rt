@@ -1,6 +1,6 @@
 //! Rules that a text breaks, and why reading stops.
 
-ghost use Rattle.std.specs.Prelude.{◌≡◌, ℕ, Option};
+ghost use Rattle.std.specs.Prelude.{◌≡◌, Option};
 ghost use Rattle.mc_text.specs.Faults.{code_of};
 ghost use Rattle.mc_text.specs.Judged.{Judgement, placed};
 ghost use Rattle.mc_text.specs.Stops.{IsStop, IsEnd};

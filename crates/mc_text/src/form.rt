@@ -3,8 +3,8 @@
 ghost use Rattle.std.specs.Prelude.{◌≡◌, ℕ, List, [], ◌∷◌, None, OnOk, IfErr, true};
 ghost use Rattle.std.specs.Prelude.{codes, Some, if◌then◌else◌};
 ghost use Rattle.mc_text.specs.Heads.{is_word};
-ghost use Rattle.mc_text.specs.Headers.{plain_form, is_version, may_say, is_turn, half_by};
-ghost use Rattle.mc_text.specs.Headers.{is_other, form_judge, version_behind};
+ghost use Rattle.mc_text.specs.Headers.{plain_form, is_turn, half_by};
+ghost use Rattle.mc_text.specs.Headers.{form_judge, version_behind};
 ghost use Rattle.mc_text.specs.Stops.{IsStop};
 
 use crate::fault::{Fault, Stop};

@@ -3,10 +3,10 @@ use Rattle.std.proofs.Common.{◌≡◌, ℕ, ℤ, zero, suc, ◌+◌, ◌*◌, 
 use Rattle.std.proofs.Common.{◌^◌, ◌<◌, ◌≤◌, Bool, true}
 use Rattle.std.proofs.Common.{false, cond, ◌||◌, List, [], ◌∷◌, map, length, Option, Some, None}
 use Rattle.std.proofs.Common.{refl, sym, ap, ap₂, ◌∙◌, arith, inl, inr, subst}
-use Rattle.std.specs.Prelude.{◌↔◌, nat_eq, MatchOption}
+use Rattle.std.specs.Prelude.{◌↔◌, nat_eq}
 use Rattle.std.specs.List.{list_any}
 use Rattle.std.specs.Option.{is_none}
-use Rattle.std.proofs.lemmas.Bool.{eq-eqb, ne_eqb, eqb-true, cases_eq, or_cases}
+use Rattle.std.proofs.lemmas.Bool.{eqb-true, cases_eq, or_cases}
 use Rattle.std.proofs.lemmas.List.{length-map}
 use Rattle.std.proofs.Math.Nat.{add-mul-div_right, pow-suc}
 use Rattle.std.proofs.lemmas.Nat.{div-mul-add}
@@ -18,11 +18,11 @@ use Rattle.mc_model.specs.Amplitude.{placed}
 use Rattle.mc_model.proofs.BitLemmas.{replaced_same, replaced_other}
 use Rattle.mc_model.specs.Ring.{Element}
 use Rattle.mc_cyclo.specs.Cyclo.{IsLong}
-use Rattle.mc_cyclo.specs.Phase.{IsPhase}
+use Rattle.mc_cyclo.specs.Phase.{IsPhase, IsLeastPhase}
 use Rattle.mc_model.specs.Roots.{IsSameValue}
 use Rattle.mc_run_text.specs.Reduced.{reduced}
 use Rattle.mc_pattern.specs.Patterns.{measured_count}
-use Rattle.mc_run.specs.Reports.{IsLeastPhase, outcomes_of}
+use Rattle.mc_run.specs.Reports.{outcomes_of}
 use Rattle.mc_model.specs.Pattern.{measured_order}
 use Rattle.mc_run.specs.Settings.{is_odd, spelled}
 use Rattle.mc_run.proofs.MeasuringOrder.{order_long}

@@ -1,12 +1,10 @@
 -- The chosen bound of a graph of at most 64 vertices fits it, with numbers of few digits.
-use Rattle.std.proofs.Common.{◌≡◌, ℕ, ◌<◌, ◌≤◌, Bool, true, false, Option, Some, None, refl, arith}
+use Rattle.std.proofs.Common.{◌≡◌, ℕ, ◌<◌, ◌≤◌, Bool, true, false, Some, None, refl, arith}
 use Rattle.std.specs.Prelude.{nat_lt, if◌then◌else◌}
 use Rattle.std.proofs.lemmas.Bool.Decides.{nat_tests}
 use Rattle.mc_lex.specs.declared.end.TextEnd.TheVariants as end
 use Rattle.mc_model.specs.Graph.{OpenGraph, size}
 use Rattle.mc_graph.specs.Flows.{FlowRows, IsChosenFlowOf, layer_in, sets_in}
-use Rattle.mc_cert.specs.BoundRecords.{LayerRow, BoundRow}
-use Rattle.mc_cert.specs.BoundRules.{stated_in}
 use Rattle.mc_cert.specs.Bounds.{BoundRows}
 use Rattle.mc_cert.specs.Laws.{ShortBoundsAreFew}
 use Rattle.mc_cert_text.specs.Certs.{HasShortBound, HasShortNumbers, IsCertIn, least}

@@ -1,5 +1,5 @@
 -- Something is due where the answer is what is chosen of a graph, or a derivation: that exists.
-use Rattle.std.proofs.Common.{◌≡◌, ℕ, zero, suc, ◌<◌, ◌≤◌, List, Bool, true, false, nat_lt}
+use Rattle.std.proofs.Common.{◌≡◌, ℕ, ◌≤◌, List, Bool, true, false, nat_lt}
 use Rattle.std.proofs.Common.{length, Option, Some, None, IsTrue, refl, arith, inl, inr, [], ◌∷◌}
 use Rattle.std.proofs.Common.{codes}
 use Rattle.std.specs.Prelude.{IsSomeAnd}
@@ -16,6 +16,7 @@ use Rattle.mc_model.specs.StandardForm.{standard_commands, standard_form}
 use Rattle.mc_model.specs.Steps.{is_permitted}
 use Rattle.mc_model.specs.Translation.{qubit_count, translation}
 use Rattle.mc_model.specs.Valid.{IsValidCircuit, IsValidPattern}
+use Rattle.mc_model.proofs.StepLemmas.{permitted_positive}
 use Rattle.mc_cert.specs.Laws.{ShortBoundsAreFew}
 use Rattle.mc_chosen.specs.Laws.{CausalFlowsOrStuckSetsExist, ChosenFlowsHaveBounds}
 use Rattle.mc_chosen.specs.Laws.{FlowsOrRefutersExist, HasChosenRefuter}
@@ -37,7 +38,7 @@ use Rattle.mc_cert_text.specs.Certs as cert
 use Rattle.mc_document.specs.Documents as document
 use Rattle.mc_document.specs.Documents.{document_text, IsDocument, PlainDocument}
 use Rattle.mc_document.specs.declared.takes.Takes as takes
-use Rattle.mc_document.specs.Kinds.{circuits_and_patterns, every_source, IsTaken}
+use Rattle.mc_document.specs.Documents.{circuits_and_patterns, every_source, IsTaken}
 use Rattle.mc_document.specs.Places.{first_place}
 use Rattle.mc_document.specs.Sections.{first_in_text, spelled}
 use Rattle.mc_document.specs.Turns.{first_words, half_of}
@@ -80,10 +81,6 @@ pub record ChosenLaws : Type 0 where
   pub translation_flow : TranslationsHaveFlows
   pub forms : FormLaws
 
-pub some_steps : (half : ℕ) → IsTrue (is_permitted half) → 0 < half
-some_steps zero permitted = absurd (cc permitted)
-some_steps (suc half) permitted = omega arith
-
 within_limit : (c : Circuit) (t : Bool) → nat_lt 256 (qubit_count c) ≡ t →
     translation_limit c ≡ None → qubit_count c ≤ 256
 within_limit c true e none = let none' = rw e at none in absurd (cc none')
@@ -96,7 +93,7 @@ few_qubits c none = within_limit c (nat_lt 256 (qubit_count c)) refl none
 pub circuit_open : FormLaws → (half : ℕ) → IsTrue (is_permitted half) → (c : Circuit) →
     IsValidCircuit c → qubit_count c ≤ 256 → IsOpenGraph (graph_of half (translation half c))
 circuit_open laws half permitted c valid few =
-    (laws.graph_kept half (some_steps half permitted) (translation half c)
+    (laws.graph_kept half (permitted_positive half permitted) (translation half c)
     (laws.translation_valid half c valid few)).graph
 
 -- the standard form of the pattern that is made from its chosen flow is valid
@@ -232,7 +229,7 @@ module _ (laws : ChosenLaws) (half : ℕ) where
   trace_due (document.traced p uses) valid taken = pattern_due p valid.0.valid
   trace_due (document.two p q line column) valid taken = absurd (cc taken.1)
   trace_due (document.graph g c) valid taken = absurd (cc taken.0)
-  trace_due (document.gates g) valid taken = absurd (cc taken)
+  trace_due _ valid taken = absurd (cc taken)
 
   -- ---- what is due for a circuit
 
@@ -278,13 +275,13 @@ module _ (laws : ChosenLaws) (half : ℕ) where
     compile_due (document.traced p uses) valid taken = absurd (cc taken.0)
     compile_due (document.two p q line column) valid taken = absurd (cc taken.0)
     compile_due (document.graph g c) valid taken = absurd (cc taken.0)
-    compile_due (document.gates g) valid taken = absurd (cc taken)
+    compile_due _ valid taken = absurd (cc taken)
 
     -- ---- what is due for a document
 
     pattern_few : (p : Pattern) → IsValidPattern p → size (graph_of half p) ≤ 256
     pattern_few p valid =
-        (laws.forms.graph_kept half (some_steps half permitted) p valid).graph.names.few
+        (laws.forms.graph_kept half (permitted_positive half permitted) p valid).graph.names.few
 
     source_few : (d : PlainDocument) → IsDocument half d → IsTaken every_source d →
         source_limit d ≡ None → size (source_graph half d) ≤ 256
@@ -294,7 +291,7 @@ module _ (laws : ChosenLaws) (half : ℕ) where
     source_few (document.traced p uses) valid taken none = pattern_few p valid.0.valid
     source_few (document.two p q line column) valid taken none = absurd (cc taken.1)
     source_few (document.graph g c) valid taken none = valid.0.open_graph.names.few
-    source_few (document.gates g) valid taken none = absurd (cc taken)
+    source_few _ valid taken none = absurd (cc taken)
 
     chosen_due : (asked : Asked) (place : Place) (d : PlainDocument) → chooses asked ≡ true →
         IsDocument half d → IsTaken (command_of asked).takes d →

@@ -1,5 +1,5 @@
 -- What is due and what is meant where a circuit is compiled.
-use Rattle.std.proofs.Common.{◌≡◌, ℕ, ◌<◌, ◌≤◌, List, Option, Some, None, Result, Ok, Err, refl}
+use Rattle.std.proofs.Common.{◌≡◌, ℕ, ◌<◌, ◌≤◌, List, Option, Some, Result, Ok, Err, refl}
 use Rattle.std.proofs.Common.{sym, subst}
 use Rattle.std.specs.Prelude.{IsSomeAnd}
 use Rattle.mc_lex.specs.declared.end.TextEnd.{TextEnd}
@@ -8,8 +8,7 @@ use Rattle.mc_model.specs.Pattern.{Circuit}
 use Rattle.mc_model.specs.Translation.{qubit_count}
 use Rattle.mc_circuit.specs.Circuits.{IsCircuit}
 use Rattle.mc_compile.specs.Laws.{CompiledCircuits}
-use Rattle.mc_document.specs.Documents.{PlainDocument, circuit, graph, pattern, traced, two, gates}
-use Rattle.mc_document.specs.Documents.{circuit_in, IsDocument}
+use Rattle.mc_document.specs.Documents.{PlainDocument, circuit, circuit_in, IsDocument}
 use Rattle.mc_top.specs.declared.answer.Answer.{Answer}
 use Rattle.mc_top.specs.Compile.{CompilesTo, MeansCompile}
 use Rattle.mc_top.specs.Due.{Due, Gives, GivesDue, IsDueUnless, holding, refusal}
@@ -39,11 +38,7 @@ valid_circuit : (half : ℕ) (d : PlainDocument) (c : Circuit) → IsDocument ha
     circuit_in d ≡ Some c → IsCircuit half c
 valid_circuit half (circuit k) c valid found =
     subst (λ (o : Option Circuit). IsSomeAnd o (IsCircuit half)) found valid
-valid_circuit half (pattern p change) c valid found = absurd (cc found)
-valid_circuit half (traced p uses) c valid found = absurd (cc found)
-valid_circuit half (two p q line column) c valid found = absurd (cc found)
-valid_circuit half (graph g cert) c valid found = absurd (cc found)
-valid_circuit half (gates g) c valid found = absurd (cc found)
+valid_circuit half _ c valid found = absurd (cc found)
 
 pub compiles : CompiledCircuits → (half : ℕ) → 0 < half → (d : PlainDocument) (c : Circuit) →
     IsDocument half d → circuit_in d ≡ Some c → qubit_count c ≤ 256 → MeansCompile half d

@@ -1,31 +1,21 @@
 -- What is due for a document, and what is given.
-use Rattle.std.proofs.Common.{◌≡◌, ℕ, ◌<◌, ◌≤◌, List, length, map, Bool, true, false, nat_lt}
+use Rattle.std.proofs.Common.{◌≡◌, ℕ, ◌<◌, ◌≤◌, List, true, false, nat_lt}
 use Rattle.std.proofs.Common.{Option, Some, None, Result, Ok, Err, IfOk, IfErr, OnOk, refl, subst}
-use Rattle.std.proofs.Common.{sym, ap, ◌∙◌, arith}
+use Rattle.std.proofs.Common.{sym, ap, arith}
 use Rattle.std.proofs.Common.{IsTrue}
-use Rattle.std.specs.Prelude.{nat_eq, is_some, IsSomeAnd, MatchOption, ⊤}
+use Rattle.std.specs.Prelude.{is_some, IsSomeAnd}
 use Rattle.std.specs.Option.{option_map, option_or, option_and_then}
-use Rattle.std.proofs.lemmas.Bool.{eq-eqb}
 use Rattle.std.proofs.lemmas.Bool.Decides.{nat_tests}
-use Rattle.std.proofs.lemmas.List.{length-map}
 use Rattle.mc_lex.specs.declared.end.TextEnd.{TextEnd}
 use Rattle.mc_lex.specs.declared.end.TextEnd.TheVariants as end
 use Rattle.mc_model.specs.Pattern.{Circuit, Pattern}
-use Rattle.mc_pattern.specs.Patterns.{measured_count}
-use Rattle.mc_run.specs.Limits.{branch_limit}
-use Rattle.mc_run.specs.declared.limit.RunEnd.{RunEnd}
-use Rattle.mc_run_text.specs.Runs.{branch_run}
-use Rattle.mc_text.specs.Judged.{Place}
 use Rattle.mc_model.specs.Translation.{translation}
 use Rattle.mc_pattern_text.specs.Canonical.{pattern_text}
 use Rattle.mc_top.specs.Translate.{due_translation}
 use Rattle.mc_model.specs.Translation.{qubit_count}
 use Rattle.mc_document.specs.Documents.{PlainDocument, circuit_in, pattern_in}
 use Rattle.mc_top.specs.declared.answer.Answer.{Answer}
-use Rattle.mc_top.specs.Branch.{due_outcomes}
-use Rattle.mc_top.specs.Commands.{is_one}
-use Rattle.mc_top.specs.Due.{Due, Gives, IsLimit, due_unless, holding, run_limit}
-use Rattle.mc_top.specs.Run.{MeansBranches, MeansRun, MeansTable, due_branches, due_run, due_table}
+use Rattle.mc_top.specs.Due.{Due, Gives, IsLimit, due_unless, holding}
 use Rattle.mc_top.specs.Source.{source_in, source_limit, translation_limit, due_from}
 
 -- a passed limit is what is due
@@ -69,16 +59,6 @@ pub no_limit : (c : Circuit) → qubit_count c ≤ 256 → translation_limit c �
 no_limit c few =
     let t : nat_lt 256 (qubit_count c) ≡ false = grind (arith, nat_tests) in
     rw t refl
-
--- what is due for a branch with as many outcomes as measured qubits
-pub outcomes_due : (half : ℕ) (place : Place) (digits : List ℕ) (p : Pattern) →
-    length digits ≡ measured_count p →
-    due_outcomes half place (map is_one digits) p
-    ≡ due_unless (run_limit (branch_limit p)) (holding (branch_run half p (map is_one digits)))
-outcomes_due half place digits p long =
-    let same : nat_eq (length (map is_one digits)) (measured_count p) ≡ true =
-    eq-eqb (length (map is_one digits)) (measured_count p) (length-map digits is_one ∙ long) in
-    rw same refl
 
 -- what is given for the translation of a circuit
 pub translated_gives : (half : ℕ) (c : Circuit) (p : Pattern) (given : Result Answer TextEnd) →

@@ -1,16 +1,13 @@
 -- What is found of a graph is due.
-use Rattle.std.proofs.Common.{◌≡◌, ℕ, List, Bool, Option, Some, Result, Ok, Err, IfOk, IfErr, OnOk}
-use Rattle.std.proofs.Common.{refl, sym, subst, ap, ap₂, ◌∙◌}
+use Rattle.std.proofs.Common.{◌≡◌, ℕ, List, Bool, Option, Result, Ok, Err, IfOk, IfErr, OnOk}
+use Rattle.std.proofs.Common.{refl, sym, subst, ap₂}
 use Rattle.std.specs.declared.vec.Vec.{Vec}
 use Rattle.std.specs.declared.alloc.Global.{Global}
 use Rattle.mc_lex.specs.declared.end.TextEnd.{TextEnd}
 use Rattle.mc_lex.specs.declared.end.TextEnd.TheVariants as end
 use Rattle.mc_model.specs.declared.memory.Memory.{Memory}
-use Rattle.mc_model.specs.Graph.{OpenGraph}
-use Rattle.mc_cert_text.specs.Certs.{PlainCert, IsCertOf}
-use Rattle.mc_document.specs.Documents.{document_text, graph}
 use Rattle.mc_top.specs.declared.answer.Answer.{Answer}
-use Rattle.mc_top.specs.Due.{Due, answer, refusal, Gives, GivesDue, IsDueUnless, IsLimit}
+use Rattle.mc_top.specs.Due.{Due, answer, Gives, GivesDue, IsDueUnless, IsLimit}
 
 -- what is due by one relation is due by another
 pub gives_too : (Owed Other : Due → Type 0) (given : Result Answer TextEnd) →

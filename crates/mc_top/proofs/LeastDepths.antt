@@ -6,8 +6,8 @@ use Rattle.std.specs.Prelude.{nat_le, max, map, fold}
 use Rattle.std.proofs.lemmas.Bool.{cases_eq, le-leb, leb-true, true≢false}
 use Rattle.mc_model.specs.Bits.{Bits}
 use Rattle.mc_model.specs.Numbers.{numbers_from}
-use Rattle.mc_model.specs.Graph.{OpenGraph, size, is_output, odd_neighbourhood}
-use Rattle.mc_model.specs.Flow.{IsFlow, CorrectsAt, depth_of}
+use Rattle.mc_model.specs.Graph.{OpenGraph, size}
+use Rattle.mc_model.specs.Flow.{IsFlow, depth_of}
 use Rattle.mc_model.specs.Choice.{IsChosenFlow}
 use Rattle.mc_model.proofs.ChosenFlows.{chosen_is_flow}
 

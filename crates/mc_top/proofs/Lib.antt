@@ -12,7 +12,7 @@ pub mod OneChoice
 pub mod Findings
 pub mod CertifiedGraphs
 pub mod Compilations
-pub mod SampleNumbers
+pub mod ByteSums
 pub mod Samples
 pub mod Making
 pub mod SameMade

@@ -16,9 +16,8 @@ use Rattle.mc_make.specs.Laws.{ZeroBranchOfFlowPattern}
 use Rattle.mc_extract.specs.Laws.{CircuitsAreExtracted, ExtractedCircuitHasTable}
 use Rattle.mc_extract.specs.Laws.{ExtractedCircuitScale, ExtractedCircuitsAreValid}
 use Rattle.mc_extract.specs.Laws.{ExtractedGatesAreEdges}
-use Rattle.mc_document.specs.Documents.{PlainDocument, circuit, graph, pattern, IsDocument}
-use Rattle.mc_document.specs.Documents.{gates, traced, two}
-use Rattle.mc_document.specs.Kinds.{IsTaken, every_source}
+use Rattle.mc_document.specs.Documents.{PlainDocument, circuit, graph, pattern, traced, two}
+use Rattle.mc_document.specs.Documents.{IsDocument, IsTaken, every_source}
 use Rattle.mc_extract.specs.Extracted.{gate_count}
 use Rattle.mc_top.specs.Due.{Due, GivesDue, IsDueUnless}
 use Rattle.mc_top.specs.Extract.{gate_limit, MeansExtract}
@@ -61,7 +60,6 @@ makes laws half positive (pattern p change) taken valid few =
 makes laws half positive (traced p uses) taken valid few =
     laws.made half positive p valid.0.valid
 makes laws half positive (two p q line column) taken valid few = absurd (cc taken.1)
-makes laws half positive (gates g) taken valid few = absurd (cc taken)
 makes laws half positive (graph g cert) taken valid few = λ sets layer flow.
     let is_open = valid.0.open_graph in
     let zero = laws.zero half positive g is_open sets layer flow in
@@ -79,6 +77,7 @@ makes laws half positive (graph g cert) taken valid few = λ sets layer flow.
           };
       exact = λ free y b. zero y b;
     }
+makes laws half positive _ taken valid few = absurd (cc taken)
 
 pub extracts : ExtractLaws → (half : ℕ) → 0 < half → (d : PlainDocument) →
     IsTaken every_source d → IsDocument half d → source_limit d ≡ None → MeansExtract half d
@@ -90,7 +89,6 @@ extracts laws half positive (pattern p change) taken valid few =
 extracts laws half positive (traced p uses) taken valid few =
     laws.extracted half positive p valid.0.valid
 extracts laws half positive (two p q line column) taken valid few = absurd (cc taken.1)
-extracts laws half positive (gates g) taken valid few = absurd (cc taken)
 extracts laws half positive (graph g cert) taken valid few = λ next layer flow.
     let is_open = valid.0.open_graph in
     record {
@@ -99,6 +97,7 @@ extracts laws half positive (graph g cert) taken valid few = λ next layer flow.
       scale = laws.scale half g is_open next layer flow;
       same = laws.table half positive g is_open next layer flow;
     }
+extracts laws half positive _ taken valid few = absurd (cc taken)
 
 -- ---- the gates of an extracted circuit
 

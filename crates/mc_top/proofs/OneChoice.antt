@@ -1,22 +1,22 @@
 -- A graph has at most one chosen flow and at most one chosen refuter, as rows.
-use Rattle.std.proofs.Common.{◌≡◌, ◌≢◌, ◌⊎◌, ℕ, zero, suc, ◌+◌, ◌<◌}
+use Rattle.std.proofs.Common.{◌≡◌, ◌≢◌, ◌⊎◌, ℕ, ◌<◌}
 use Rattle.std.proofs.Common.{◌≤◌, Bool, true, false, not, cond, ◌||◌}
-use Rattle.std.proofs.Common.{List, [], ◌∷◌, map, Option, Some, None, refl, sym, ap, ap₂, subst, ◌∙◌}
+use Rattle.std.proofs.Common.{List, [], ◌∷◌, map, Option, Some, refl, sym, ap, subst, ◌∙◌}
 use Rattle.std.proofs.Common.{inl, inr, arith}
-use Rattle.std.specs.Prelude.{nat_eq, nat_lt, count_by, All, fold, max, option_map, unwrap_or, ⊤}
+use Rattle.std.specs.Prelude.{nat_eq, count_by, All, option_map, unwrap_or}
 use Rattle.std.proofs.lemmas.Bool.{cases_eq, eq-eqb, ne_eqb, true≢false}
 use Rattle.std.proofs.lemmas.List.Elements.{All-nil, All-cons, All-head, All-tail}
 use Rattle.mc_model.specs.Bits.{Bits}
-use Rattle.mc_model.specs.Numbers.{is_member, numbers_from}
+use Rattle.mc_model.specs.Numbers.{is_member}
 use Rattle.mc_model.specs.Signals.{AllAbove, IsRising}
-use Rattle.mc_model.specs.Graph.{OpenGraph, size, is_output, is_input, odd_neighbourhood}
-use Rattle.mc_model.specs.Flow.{single, depth_of, RefutesAt}
-use Rattle.mc_model.specs.Choice.{CorrectsAlone, IsChosenFlow, IsLaterCandidate, IsLeastLayer}
+use Rattle.mc_model.specs.Graph.{OpenGraph, size, is_output}
+use Rattle.mc_model.specs.Flow.{depth_of, RefutesAt}
+use Rattle.mc_model.specs.Choice.{CorrectsAlone, IsChosenFlow, IsLaterCandidate}
 use Rattle.mc_model.specs.Choice.{IsLeastSet, IsLess, SameBelow}
 use Rattle.mc_model.proofs.NumberLists.{count-first}
 use Rattle.mc_graph.specs.RowLists.{row_at}
 use Rattle.mc_graph.specs.Flows.{FlowLine, FlowRows, IsChosenFlowOf, RowsRise, StandsBefore}
-use Rattle.mc_graph.specs.Flows.{layer_in, set_in, sets_in, vertices_of}
+use Rattle.mc_graph.specs.Flows.{layer_in, set_in, sets_in}
 use Rattle.mc_graph.specs.Refuters.{RefuterLine, IsChosenRefuterOf, refuted_in, refuting_in}
 use Rattle.mc_top.proofs.OrderedRows.{IsIn, IsOrdered, counted_found, found_in, found_later, in_all}
 use Rattle.mc_top.proofs.OrderedRows.{in_found, later_or, member_in, same_members, same_rows}

@@ -31,11 +31,11 @@ use Rattle.mc_top.specs.Commands.{beside, chain, check, command_of, compile, ext
 use Rattle.mc_top.specs.Commands.{lower, make, trace}
 use Rattle.mc_top.specs.Compile.{IsCompiledText, IsDueCompile}
 use Rattle.mc_top.specs.Due.{Due, IsDueUnless, answer, holding}
-use Rattle.mc_top.specs.Extract.{IsCircuitDue, IsExtractDue, IsExtractionDue, IsStuckDue}
+use Rattle.mc_top.specs.Extract.{IsExtractDue, IsExtractionDue}
 use Rattle.mc_top.specs.Extract.{gate_limit}
-use Rattle.mc_top.specs.Flow.{IsFlowDue, IsFoundDue, IsRefuterDue}
+use Rattle.mc_top.specs.Flow.{IsFoundDue}
 use Rattle.mc_top.specs.GraphSource.{source_graph}
-use Rattle.mc_top.specs.Make.{IsMadeDue, IsMakingDue}
+use Rattle.mc_top.specs.Make.{IsMakingDue}
 use Rattle.mc_cert.specs.Bounds.{BoundRows}
 use Rattle.mc_top.specs.Least.{IsBoundFoundDue, IsLeastDue, size_limit}
 use Rattle.mc_top.specs.Serve.{IsDue, IsDueIn, IsDueSpelled, too_long}
@@ -183,15 +183,11 @@ one_compile : FormLaws → (half : ℕ) → IsTrue (is_permitted half) → (d : 
 one_compile laws half permitted (document.circuit c) valid =
     one_where (translation_limit c) (IsCompiledText half c)
     (λ none. one_compiled laws half permitted c valid.valid (few_qubits c none))
-one_compile laws half permitted (document.pattern p change) valid = λ due due' h h'. absurd h
-one_compile laws half permitted (document.traced p uses) valid = λ due due' h h'. absurd h
-one_compile laws half permitted (document.two p q line column) valid = λ due due' h h'. absurd h
-one_compile laws half permitted (document.graph g cert) valid = λ due due' h h'. absurd h
-one_compile laws half permitted (document.gates g) valid = λ due due' h h'. absurd h
+one_compile laws half permitted _ valid = λ due due' h h'. absurd h
 
 one_command : CausalLaws → FormLaws → (half : ℕ) → IsTrue (is_permitted half) →
-    (asked : Asked) → (asked ≡ trace → ⊥) → (place : Place) (d : PlainDocument) → IsDocument half d →
-    IsOne ((command_of asked).IsDue half place d)
+    (asked : Asked) → (asked ≡ trace → ⊥) → (place : Place) (d : PlainDocument) →
+    IsDocument half d → IsOne ((command_of asked).IsDue half place d)
 one_command causal laws half permitted translate other place d valid = one_some _
 one_command causal laws half permitted print other place d valid = one_some _
 one_command causal laws half permitted standard other place d valid = one_some _

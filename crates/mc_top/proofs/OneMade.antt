@@ -1,5 +1,5 @@
 -- What is made by the chosen flow, and extracted by the chosen causal flow, is one.
-use Rattle.std.proofs.Common.{◌≡◌, ◌≢◌, ◌⊎◌, ℕ, ◌<◌, ◌≤◌, Bool, false}
+use Rattle.std.proofs.Common.{◌≡◌, ℕ, ◌<◌, ◌≤◌, Bool, false}
 use Rattle.std.proofs.Common.{List, [], ◌∷◌, refl, sym, ap}
 use Rattle.std.proofs.Common.{◌∙◌}
 use Rattle.std.proofs.Common.{◌||◌, arith, inl, inr}
@@ -8,7 +8,7 @@ use Rattle.std.proofs.lemmas.Bool.{ne_eqb, cases_lt}
 use Rattle.std.proofs.lemmas.List.Elements.{All-head, All-tail}
 use Rattle.mc_model.specs.Bits.{Bits}
 use Rattle.mc_model.specs.Numbers.{is_member}
-use Rattle.mc_model.specs.Graph.{OpenGraph, size, is_output}
+use Rattle.mc_model.specs.Graph.{OpenGraph, size}
 use Rattle.mc_model.specs.Choice.{IsChosenFlow, IsChosenCausalFlow, IsChosenStuckSet}
 use Rattle.mc_model.specs.Made.{flow_pattern, extracted_circuit}
 use Rattle.mc_extract.specs.Laws.{ChosenCausalFlowsAreUnique, ChosenStuckSetsAreUnique}

@@ -1,6 +1,6 @@
 -- What is extracted of a graph depends on the layers and nexts of its vertices alone.
 use Rattle.std.proofs.Common.{◌≡◌, ℕ, zero, suc, ◌+◌, ◌<◌, Bool, true, false, not, cond, ◌&&◌, ◌||◌}
-use Rattle.std.proofs.Common.{List, [], ◌∷◌, ◌++◌, map, Option, Some, None, refl, sym, ap, ap₂}
+use Rattle.std.proofs.Common.{List, [], ◌∷◌, ◌++◌, map, Option, Some, refl, sym, ap, ap₂}
 use Rattle.std.proofs.Common.{subst}
 use Rattle.std.proofs.Common.{◌∙◌, arith}
 use Rattle.std.specs.Prelude.{nat_eq, nat_lt, All, filter, find, flat_map, is_none, position}
@@ -10,7 +10,7 @@ use Rattle.mc_model.specs.Bits.{Bits}
 use Rattle.mc_model.specs.Names.{Name}
 use Rattle.mc_model.specs.Numbers.{numbers_from, numbers_where, is_member}
 use Rattle.mc_model.specs.Phase.{negated}
-use Rattle.mc_model.specs.Pattern.{Gate, J, CZ, Circuit}
+use Rattle.mc_model.specs.Pattern.{Gate, J, CZ}
 use Rattle.mc_model.specs.Graph.{OpenGraph, Edge, size, is_output, base_angle, joins, fixed_at}
 use Rattle.mc_model.specs.Graph.{where_fixed}
 use Rattle.mc_model.specs.Flow.{depth_of}

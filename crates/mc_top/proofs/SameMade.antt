@@ -1,12 +1,12 @@
 -- What is made of a graph depends on the layers, sets and nexts of its vertices alone.
-use Rattle.std.proofs.Common.{◌≡◌, ℕ, zero, suc, ◌+◌, ◌<◌, Bool, true, false, not, cond, ◌&&◌, ◌||◌}
+use Rattle.std.proofs.Common.{◌≡◌, ℕ, zero, suc, ◌+◌, ◌<◌, Bool, true, false, not, cond, ◌&&◌}
 use Rattle.std.proofs.Common.{List, [], ◌∷◌, ◌++◌, map, refl, sym, ap, ap₂, ◌∙◌, arith}
 use Rattle.std.specs.Prelude.{nat_eq, fold, max, flat_map}
 use Rattle.std.proofs.lemmas.List.Concat.{flat_map-append}
 use Rattle.mc_model.specs.Bits.{Bits}
 use Rattle.mc_model.specs.Numbers.{numbers_from, numbers_where}
 use Rattle.mc_model.specs.Signals.{signal_of}
-use Rattle.mc_model.specs.Pattern.{Command, FixX, FixZ, Pattern}
+use Rattle.mc_model.specs.Pattern.{Command, FixX, FixZ}
 use Rattle.mc_model.specs.Graph.{OpenGraph, size, is_output, odd_neighbourhood, joins}
 use Rattle.mc_model.specs.Graph.{graph_state, bare_measurement, fixed_corrections}
 use Rattle.mc_model.specs.Flow.{depth_of}

@@ -1,5 +1,5 @@
 -- Sample circuits are within the limit of qubits.
-use Rattle.std.proofs.Common.{◌≡◌, ◌∙◌, ℕ, zero, suc, ◌+◌, ◌<◌, ◌≤◌, refl, arith}
+use Rattle.std.proofs.Common.{◌≡◌, ℕ, zero, suc, ◌+◌, ◌<◌, ◌≤◌, refl, arith}
 use Rattle.mc_model.specs.Amplitude.{j_count}
 use Rattle.mc_model.specs.Translation.{qubit_count}
 use Rattle.mc_sample.specs.Generator.{gates_behind, next_number, sample_circuit}

@@ -17,9 +17,9 @@ use Rattle.mc_document.specs.declared.takes.Takes as takes
 use Rattle.mc_document.specs.Documents as document
 use Rattle.mc_document.specs.Documents.{IsDocument, PlainDocument, circuit_in, document_text}
 use Rattle.mc_document.specs.Documents.{gates_in, pattern_in, two_in}
-use Rattle.mc_document.specs.Kinds.{two_patterns}
-use Rattle.mc_document.specs.Kinds.{IsTaken, circuits_and_patterns, every_source, only_circuits}
-use Rattle.mc_document.specs.Kinds.{only_gates, patterns_and_graphs}
+use Rattle.mc_document.specs.Documents.{two_patterns}
+use Rattle.mc_document.specs.Documents.{IsTaken, circuits_and_patterns, every_source, only_circuits}
+use Rattle.mc_document.specs.Documents.{only_gates, patterns_and_graphs}
 use Rattle.mc_document.specs.Places.{first_place}
 use Rattle.mc_document.specs.Sections.{first_in_text, spelled}
 use Rattle.mc_document.specs.Turns.{half_of}
@@ -48,11 +48,7 @@ pub record AreSeen : Type 0 where
   pub two : (d : PlainDocument) → IsTaken two_patterns d → IsTrue (is_some (two_in d))
   pub judged : EveryTraceIsJudged
 
--- what there is of an option
-some_value : {A : Type 0} (o : Option A) → IsTrue (is_some o) → (x : A) × (o ≡ Some x)
-some_value None h = absurd (cc h)
-some_value (Some x) h = (x, refl)
-
+-- what a function makes of an option that has something
 mapped : {A B : Type 0} (f : A → B) (o : Option A) → IsTrue (is_some o) →
     (y : B) × (option_map f o ≡ Some y)
 mapped f None h = absurd (cc h)
@@ -81,24 +77,23 @@ run_seen (document.pattern p change) taken none = refl
 run_seen (document.traced p uses) taken none = refl
 run_seen (document.two p q line column) taken none = absurd (cc taken.1)
 run_seen (document.graph g cert) taken none = refl
-run_seen (document.gates g) taken none = absurd (cc taken)
+run_seen _ taken none = absurd (cc taken)
 
 branch_seen : (d : PlainDocument) → IsTaken patterns_and_graphs d →
     IsTrue (is_some (run_source_in d))
-branch_seen (document.circuit c) taken = absurd (cc taken)
 branch_seen (document.pattern p change) taken = refl
 branch_seen (document.traced p uses) taken = refl
 branch_seen (document.two p q line column) taken = absurd (cc taken.1)
 branch_seen (document.graph g cert) taken = refl
-branch_seen (document.gates g) taken = absurd (cc taken)
+branch_seen _ taken = absurd (cc taken)
 
 gates_seen : (d : PlainDocument) → IsTaken only_gates d → IsTrue (is_some (gates_in d))
-gates_seen (document.circuit c) taken = absurd (cc taken)
 gates_seen (document.pattern p change) taken = absurd (cc taken.0)
 gates_seen (document.traced p uses) taken = absurd (cc taken.0)
 gates_seen (document.two p q line column) taken = absurd (cc taken.0)
 gates_seen (document.graph g cert) taken = absurd (cc taken.0)
 gates_seen (document.gates g) taken = refl
+gates_seen _ taken = absurd (cc taken)
 
 pub command_due : AreSeen → (asked : Asked) (half : ℕ) (place : Place) (d : PlainDocument) →
     chooses asked ≡ false → IsTaken (command_of asked).takes d →

@@ -1,5 +1,5 @@
 -- The limit of derivations.
-use Rattle.std.proofs.Common.{◌≡◌, ◌<◌, ◌≤◌, length, Some, None, true, false, nat_lt, refl, sym}
+use Rattle.std.proofs.Common.{◌≡◌, ◌<◌, ◌≤◌, length, Some, None, true, nat_lt, refl, sym}
 use Rattle.std.proofs.Common.{◌∙◌, arith}
 use Rattle.std.proofs.lemmas.Bool.{cases_lt}
 use Rattle.std.proofs.lemmas.Bool.Decides.{nat_tests}
@@ -7,10 +7,6 @@ use mathlib.Core.Logic.{inl, inr}
 use Rattle.mc_lex.specs.declared.end.TextEnd.TheVariants as end
 use Rattle.mc_model.specs.Pattern.{Pattern}
 use Rattle.mc_top.specs.Trace.{trace_limit}
-
-pub few_commands : (p : Pattern) → length p.commands ≤ 64 → trace_limit p ≡ None
-few_commands p few =
-    let t : nat_lt 64 (length p.commands) ≡ false = grind (arith, nat_tests) in rw t refl
 
 pub many_commands : (p : Pattern) → 64 < length p.commands →
     trace_limit p ≡ Some (end.Limit 6 (length p.commands))

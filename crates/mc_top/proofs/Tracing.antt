@@ -15,12 +15,12 @@ use Rattle.mc_model.proofs.StepLemmas.{permitted_positive}
 use Rattle.mc_pattern.specs.Patterns.{IsPattern}
 use Rattle.mc_rules.specs.Laws.{DerivationsKeepPatterns}
 use Rattle.mc_cert_text.specs.Certs.{PlainCert}
-use Rattle.mc_document.specs.Documents.{IsDocument, PlainDocument, circuit, pattern, traced, two}
-use Rattle.mc_document.specs.Documents.{graph, gates, cert_in, graph_in, pattern_in, traced_in}
+use Rattle.mc_document.specs.Documents.{IsDocument, PlainDocument, cert_in, graph_in}
+use Rattle.mc_document.specs.Documents.{pattern_in, traced, traced_in}
 use Rattle.mc_trace_text.specs.Traces.{CanBeWritten}
 use Rattle.mc_top.specs.declared.answer.Answer.{Answer}
 use Rattle.mc_top.specs.Check.{IsDueCheck, IsDueTraced, MeansCheck, MeansTraceVerdict, MeansVerdict}
-use Rattle.mc_top.specs.Check.{breach_in, due_verdict, traced_pattern_in}
+use Rattle.mc_top.specs.Check.{breach_in, due_verdict}
 use Rattle.mc_top.specs.Due.{Due, Gives, GivesDue, IsDueUnless, IsLimit, holding}
 use Rattle.mc_top.specs.Trace.{MeansTraced}
 use Rattle.mc_top.proofs.Compilations.{gives_text}
@@ -55,16 +55,7 @@ told_owed (Err e) (Err (end.Refused code line column)) Owed owed same gives =
 told_owed (Err e) (Err (end.Limit which found)) Owed owed same gives =
     let h = gives [] tt in absurd (cc h)
 
--- what is given for the pattern of a document is due for the document
-pub from_pattern : (found : Option Pattern) (p : Pattern) (limit : Option TextEnd)
-    (Owed : Pattern → Due → Type 0) (given : Result Answer TextEnd) → found ≡ Some p →
-    limit ≡ None → GivesDue (Owed p) given →
-    GivesDue (λ due. IsSomeAnd found (λ q. IsDueUnless limit (Owed q) due)) given
-from_pattern found p limit Owed (Ok made) e none h = rw (e, none) h
-from_pattern found p limit Owed (Err end.Memory) e none h = tt
-from_pattern found p limit Owed (Err (end.Refused code line column)) e none h = rw (e, none) h
-from_pattern found p limit Owed (Err (end.Limit which number)) e none h = rw (e, none) h
-
+-- a limit of the pattern of a document is due for the document
 pub from_end : (found : Option Pattern) (limit : Option TextEnd) (Owed : Pattern → Due → Type 0)
     (given : TextEnd) → IsTrue (is_some found) → IsLimit given limit →
     GivesDue (λ due. IsSomeAnd found (λ q. IsDueUnless limit (Owed q) due)) (Err given)
@@ -91,19 +82,11 @@ places_fit uses few places = record {
 
 -- ---- a pattern with a trace, as a document has it
 
-pub traced_is : (d : PlainDocument) (p : Pattern) (uses : List Use) → pattern_in d ≡ Some p →
-    traced_in d ≡ Some uses → traced_pattern_in d ≡ Some (p, uses)
-traced_is d p uses found behind = rw (found, behind) refl
-
 pub traced_few : (half : ℕ) (d : PlainDocument) (uses : List Use) → IsDocument half d →
     traced_in d ≡ Some uses → length uses ≤ 65536
-traced_few half (circuit c) uses valid behind = absurd (cc behind)
-traced_few half (pattern p change) uses valid behind = absurd (cc behind)
 traced_few half (traced p us) uses valid behind =
     let e : us ≡ uses = cc behind in subst (λ (xs : List Use). length xs ≤ 65536) e valid.1.few
-traced_few half (two p q line column) uses valid behind = absurd (cc behind)
-traced_few half (graph g cert) uses valid behind = absurd (cc behind)
-traced_few half (gates x) uses valid behind = absurd (cc behind)
+traced_few half _ uses valid behind = absurd (cc behind)
 
 -- a verdict on one of the two kinds is one on the document
 pub on_traced : (d : PlainDocument) (p : Pattern) (uses : List Use)

@@ -6,8 +6,8 @@ use Rattle.mc_model.specs.Derivation.{Use}
 use Rattle.mc_model.specs.Pattern.{Pattern}
 use Rattle.mc_cert.specs.Rules.{Breach}
 use Rattle.mc_trace.specs.Judging.{EveryTraceIsJudged, Judges}
-use Rattle.mc_document.specs.Documents.{PlainDocument, circuit, gates, graph, pattern, traced, two}
-use Rattle.mc_document.specs.Kinds.{IsTaken, certified_kinds}
+use Rattle.mc_document.specs.Documents.{PlainDocument, circuit, graph, pattern, traced, two}
+use Rattle.mc_document.specs.Documents.{IsTaken, certified_kinds}
 use Rattle.mc_top.specs.Check.{IsDueCheck, IsTraceVerdict, breach_in, due_verdict}
 use Rattle.mc_top.specs.Due.{Due, refusal, IsDueUnless}
 use Rattle.mc_top.specs.Trace.{trace_limit}
@@ -30,7 +30,7 @@ check_due judged (traced p uses) taken =
 check_due judged (two p q line column) taken = absurd (cc taken.1)
 check_due judged (graph g None) taken = absurd (cc (taken.1 refl))
 check_due judged (graph g (Some cert)) taken = (due_verdict (breach_in (g, cert)), inl refl)
-check_due judged (gates g) taken = absurd (cc taken)
+check_due judged _ taken = absurd (cc taken)
 
 -- verdicts on one list of uses are one
 one_judged : (p : Pattern) (uses : List Use) (found other : Option Breach) →
@@ -66,5 +66,5 @@ one_check (graph g None) due other (inl h) k = absurd h
 one_check (graph g cert) due other (inr h) k = absurd h
 one_check (graph g (Some cert)) due other (inl h) (inl k) = h ∙ sym k
 one_check (graph g (Some cert)) due other (inl h) (inr k) = absurd k
-one_check (gates g) due other (inl h) k = absurd h
-one_check (gates g) due other (inr h) k = absurd h
+one_check _ due other (inl h) k = absurd h
+one_check _ due other (inr h) k = absurd h

@@ -6,7 +6,7 @@ use Rattle.mc_model.specs.Pattern.{Pattern}
 use Rattle.mc_compose.specs.Composed.{AreJoined, place_left, place_right, side_by_side}
 use Rattle.mc_compose.specs.Maps.{MultipliesEntries}
 use Rattle.mc_document.specs.Documents.{PlainDocument, two_in}
-use Rattle.mc_document.specs.Kinds.{two_patterns}
+use Rattle.mc_document.specs.Documents.{two_patterns}
 use Rattle.mc_top.specs.Due.{Due}
 use Rattle.mc_top.specs.TwoPatterns.{due_pattern}
 use Rattle.mc_top.specs.Command.{Command}

@@ -12,7 +12,7 @@ use Rattle.mc_run.specs.Limits.{branch_limit}
 use Rattle.mc_model.specs.Pattern.{measured_order}
 use Rattle.mc_run_text.specs.Runs.{branch_run}
 use Rattle.mc_document.specs.Documents.{PlainDocument}
-use Rattle.mc_document.specs.Kinds.{patterns_and_graphs}
+use Rattle.mc_document.specs.Documents.{patterns_and_graphs}
 use Rattle.mc_top.specs.Due.{Due, refusal, due_unless, holding, run_limit}
 use Rattle.mc_top.specs.Run.{MeansBranch}
 use Rattle.mc_top.specs.Source.{run_source_in}

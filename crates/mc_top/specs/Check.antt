@@ -20,7 +20,7 @@ use Rattle.mc_cert_text.specs.Holding.{HoldsOf, rules_of}
 use Rattle.mc_write.specs.Text.{Line, line_text}
 use Rattle.mc_document.specs.Documents.{PlainDocument, cert_in, graph_in, pattern_in}
 use Rattle.mc_document.specs.Documents.{traced_in}
-use Rattle.mc_document.specs.Kinds.{certified_kinds}
+use Rattle.mc_document.specs.Documents.{certified_kinds}
 use Rattle.mc_top.specs.Due.{Due, IsDueUnless, answer}
 use Rattle.mc_top.specs.Trace.{trace_limit}
 use Rattle.mc_top.specs.Command.{Command}

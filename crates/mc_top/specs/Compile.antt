@@ -5,7 +5,7 @@ use Rattle.mc_compile.specs.Compilations.{IsCompilation}
 use Rattle.mc_compile.specs.Laws.{IsCompiled}
 use Rattle.mc_pattern_text.specs.Canonical.{pattern_text}
 use Rattle.mc_document.specs.Documents.{PlainDocument, circuit_in}
-use Rattle.mc_document.specs.Kinds.{only_circuits}
+use Rattle.mc_document.specs.Documents.{only_circuits}
 use Rattle.mc_top.specs.Due.{Due, IsDueUnless, holding}
 use Rattle.mc_top.specs.Source.{translation_limit}
 use Rattle.mc_top.specs.Command.{Command}

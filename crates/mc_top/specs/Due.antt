@@ -1,5 +1,5 @@
 -- What is due: an answer, or a refusal.
-use Rattle.std.specs.Prelude.{◌≡◌, ℕ, List, Bool, true, if◌then◌else◌, Option, None, Some, Result}
+use Rattle.std.specs.Prelude.{◌≡◌, ℕ, List, Bool, true, Option, None, Some, Result}
 use Rattle.std.specs.Prelude.{Ok, Err, ⊤}
 use Rattle.std.specs.Option.{option_map}
 use Rattle.mc_lex.specs.declared.end.TextEnd.{TextEnd}

@@ -10,8 +10,3 @@ abbrev pub status_by_end : TextEnd → Status
 status_by_end (end.Refused code line column) = status.Refused code line column
 status_by_end (end.Limit which found) = status.Limit which found
 status_by_end end.Memory = status.Memory
-
--- the end of a text for that of a run
-abbrev pub end_of_run : RunEnd → TextEnd
-end_of_run (run.Limit which found) = end.Limit which found
-end_of_run run.Memory = end.Memory

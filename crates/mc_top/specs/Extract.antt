@@ -7,7 +7,6 @@ use Rattle.mc_lex.specs.declared.end.TextEnd.TheVariants as end
 use Rattle.mc_model.specs.Limits.{most_gates}
 use Rattle.mc_model.specs.Numbers.{is_member}
 use Rattle.mc_model.specs.Pattern.{Circuit}
-use Rattle.mc_model.specs.Translation.{translation}
 use Rattle.mc_model.specs.Graph.{OpenGraph}
 use Rattle.mc_model.specs.Flow.{IsCausalFlow}
 use Rattle.mc_model.specs.Choice.{IsChosenStuckSet}
@@ -18,11 +17,7 @@ use Rattle.mc_extract.specs.Answers.{HasNoCausalFlow}
 use Rattle.mc_extract.specs.Extracted.{gate_count, HasZeroBranch}
 use Rattle.mc_extract.specs.Laws.{IsExtractedFrom}
 use Rattle.mc_cert_text.specs.Certs.{nocausal, IsCertOf}
-use Rattle.mc_document.specs.Documents.{PlainDocument, circuit, document_text, gates, graph}
-use Rattle.mc_document.specs.Documents.{pattern}
-use Rattle.mc_document.specs.Documents.{traced, two}
-use Rattle.mc_gates.specs.Lowering.{lowered}
-use Rattle.mc_document.specs.Kinds.{every_source}
+use Rattle.mc_document.specs.Documents.{PlainDocument, document_text, every_source, graph, source_pattern}
 use Rattle.mc_top.specs.Due.{Due, IsDueUnless, answer, holding}
 use Rattle.mc_top.specs.GraphSource.{source_graph, IsDueFromGraph}
 use Rattle.mc_top.specs.Command.{Command}
@@ -59,13 +54,8 @@ IsDueExtract half d due = IsDueFromGraph half d (IsExtractDue half) due
 -- the circuit has the zero branch of the document's pattern for its table, up to a phase, doubled
 -- for each fixed correction of the graph
 abbrev pub IsExtractedOf : ℕ → PlainDocument → Circuit → Type 0
-IsExtractedOf half (circuit c) extracted = IsExtractedFrom half (translation half c) extracted
-IsExtractedOf half (pattern p change) extracted = IsExtractedFrom half p extracted
-IsExtractedOf half (traced p uses) extracted = IsExtractedFrom half p extracted
-IsExtractedOf half (two p q line column) extracted = IsExtractedFrom half p extracted
 IsExtractedOf half (graph g cert) extracted = HasZeroBranch half g extracted
-IsExtractedOf half (gates g) extracted =
-    IsExtractedFrom half (translation half (lowered g)) extracted
+IsExtractedOf half d extracted = IsExtractedFrom half (source_pattern half d) extracted
 
 -- whatever the causal flow, the chosen one too
 abbrev pub MeansExtract : ℕ → PlainDocument → Type 0

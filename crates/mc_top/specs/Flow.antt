@@ -8,7 +8,7 @@ use Rattle.mc_graph.specs.Refuters.{RefuterLine, IsRefuterOf, IsChosenRefuterOf}
 use Rattle.mc_gflow.specs.Answers.{HasNoFlow}
 use Rattle.mc_cert_text.specs.Certs.{flow, noflow, IsCertOf}
 use Rattle.mc_document.specs.Documents.{PlainDocument, document_text, graph}
-use Rattle.mc_document.specs.Kinds.{every_source}
+use Rattle.mc_document.specs.Documents.{every_source}
 use Rattle.mc_top.specs.Due.{Due, answer}
 use Rattle.mc_top.specs.GraphSource.{source_graph, IsDueFromGraph}
 use Rattle.mc_top.specs.Command.{Command}

@@ -4,7 +4,7 @@ use Rattle.mc_model.specs.Graph.{graph_of}
 use Rattle.mc_graph.specs.Laws.{KeepsZeroBranch}
 use Rattle.mc_graph_text.specs.Canonical.{graph_text}
 use Rattle.mc_document.specs.Documents.{PlainDocument}
-use Rattle.mc_document.specs.Kinds.{circuits_and_patterns}
+use Rattle.mc_document.specs.Documents.{circuits_and_patterns}
 use Rattle.mc_top.specs.Due.{Due}
 use Rattle.mc_top.specs.Source.{source_in, due_from}
 use Rattle.mc_top.specs.Command.{Command}

@@ -15,7 +15,7 @@ use Rattle.mc_cert.specs.Bounds.{BoundRows}
 use Rattle.mc_cert_text.specs.Certs.{least, IsCertOf}
 use Rattle.mc_least.specs.Chosen.{IsChosenBoundOf}
 use Rattle.mc_document.specs.Documents.{PlainDocument, document_text, graph}
-use Rattle.mc_document.specs.Kinds.{every_source}
+use Rattle.mc_document.specs.Documents.{every_source}
 use Rattle.mc_top.specs.Due.{Due, IsDueUnless, answer}
 use Rattle.mc_top.specs.Flow.{IsRefuterDue}
 use Rattle.mc_top.specs.GraphSource.{source_graph, IsDueFromGraph}

@@ -13,7 +13,7 @@ use Rattle.mc_circuit.specs.Canonical.{circuit_text}
 use Rattle.mc_gates.specs.Gates.{GateList, gate_table, gate_scale}
 use Rattle.mc_gates.specs.Lowering.{lowered, lowered_count, doubling_count}
 use Rattle.mc_document.specs.Documents.{PlainDocument, gates_in}
-use Rattle.mc_document.specs.Kinds.{only_gates}
+use Rattle.mc_document.specs.Documents.{only_gates}
 use Rattle.mc_top.specs.Due.{Due, due_unless, holding}
 use Rattle.mc_top.specs.Command.{Command}
 

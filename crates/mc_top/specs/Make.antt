@@ -8,11 +8,10 @@ use Rattle.mc_model.specs.Made.{flow_pattern}
 use Rattle.mc_pattern_text.specs.Canonical.{pattern_text}
 use Rattle.mc_graph.specs.Flows.{FlowRows, IsChosenFlowOf, layer_in, sets_in}
 use Rattle.mc_make.specs.Laws.{IsMadeFrom}
-use Rattle.mc_document.specs.Documents.{PlainDocument}
-use Rattle.mc_document.specs.Kinds.{every_source}
+use Rattle.mc_document.specs.Documents.{PlainDocument, every_source, source_pattern}
 use Rattle.mc_top.specs.Due.{Due, holding}
 use Rattle.mc_top.specs.Flow.{IsRefuterDue}
-use Rattle.mc_top.specs.GraphSource.{source_graph, source_pattern, IsDueFromGraph}
+use Rattle.mc_top.specs.GraphSource.{source_graph, IsDueFromGraph}
 use Rattle.mc_top.specs.Command.{Command}
 
 -- the text of the pattern that is made from the chosen flow

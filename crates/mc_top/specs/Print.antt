@@ -2,7 +2,7 @@
 use Rattle.std.specs.Prelude.{◌≡◌, ℕ, codes, None, Some, Option}
 use Rattle.mc_document.specs.Documents.{PlainDocument}
 use Rattle.mc_document.specs.Documents.{document_text}
-use Rattle.mc_document.specs.Kinds.{every_kind}
+use Rattle.mc_document.specs.Documents.{every_kind}
 use Rattle.mc_document.specs.Sections.{first_in_text, spelled}
 use Rattle.mc_top.specs.Due.{Due, holding}
 use Rattle.mc_top.specs.Command.{Command}

@@ -4,20 +4,20 @@ use Rattle.std.specs.Prelude.{false, Bool, List, ℤ, codes, Some}
 use Rattle.std.specs.Prelude.{Option, MatchOption, IsSomeAnd}
 use Rattle.std.specs.Option.{option_map, option_or}
 use Rattle.mc_model.specs.Bits.{Bits}
-use Rattle.mc_model.specs.Ring.{Element, ring}
+use Rattle.mc_model.specs.Ring.{ring}
 use Rattle.mc_model.specs.Pattern.{Circuit, Pattern}
 use Rattle.mc_model.specs.Valid.{measured}
 use Rattle.mc_model.specs.Amplitude.{branch_map, circuit_table, circuit_scale, pattern_scale}
 use Rattle.mc_cyclo.specs.Cyclo.{IsLong}
-use Rattle.mc_cyclo.specs.Phase.{IsPhase}
+use Rattle.mc_cyclo.specs.Phase.{IsPhase, IsLeastPhase}
 use Rattle.mc_model.specs.Roots.{IsSameValue}
 use Rattle.mc_pattern.specs.Patterns.{measured_count}
 use Rattle.mc_run.specs.Limits.{circuit_limit, all_limit}
-use Rattle.mc_run.specs.Reports.{IsLeastPhase, outcomes_of}
+use Rattle.mc_run.specs.Reports.{outcomes_of}
 use Rattle.mc_run_text.specs.Reduced.{reduced}
 use Rattle.mc_run_text.specs.Runs.{circuit_run, all_runs, branch_entries, branch_phase, is_unlike}
 use Rattle.mc_document.specs.Documents.{PlainDocument, circuit_in}
-use Rattle.mc_document.specs.Kinds.{every_source}
+use Rattle.mc_document.specs.Documents.{every_source}
 use Rattle.mc_top.specs.Due.{Due, due_unless, holding, run_limit}
 use Rattle.mc_top.specs.Source.{run_source_in}
 use Rattle.mc_top.specs.Command.{Command}

@@ -1,6 +1,6 @@
 -- What the bytes that come in call for.
-use Rattle.std.specs.Prelude.{◌≡◌, ◌≢◌, ◌⊎◌, ℕ, suc, ◌<◌, List, length, nat_lt, if◌then◌else◌}
-use Rattle.std.specs.Prelude.{Bool, true, false, Option, None, Some, ⊤, Result, Ok, Err, IsSomeAnd}
+use Rattle.std.specs.Prelude.{◌≡◌, ◌≢◌, ◌⊎◌, ℕ, suc, List, length, nat_lt, if◌then◌else◌}
+use Rattle.std.specs.Prelude.{Bool, true, false, Option, None, Some, ⊤, Ok, Err, IsSomeAnd}
 use Rattle.mc_io.specs.Calls.{Reads, ReadsOn, ReadsOnThen}
 use Rattle.mc_io.specs.Told.{AppendsWhereTold, AppendsPrefix}
 use Rattle.mc_io.specs.Faults.{Rose}
@@ -9,7 +9,7 @@ use Rattle.mc_lex.specs.declared.end.TextEnd.TheVariants as end
 use Rattle.mc_model.specs.Limits.{most_bytes}
 use Rattle.mc_text.specs.Stops.{answered}
 use Rattle.mc_document.specs.Documents.{PlainDocument, IsDocument}
-use Rattle.mc_document.specs.Kinds.{IsTaken}
+use Rattle.mc_document.specs.Documents.{IsTaken}
 use Rattle.mc_document.specs.Places.{first_place}
 use Rattle.mc_document.specs.Sections.{first_in_text, spelled}
 use Rattle.mc_document.specs.Turns.{half_of}

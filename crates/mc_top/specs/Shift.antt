@@ -10,7 +10,7 @@ use Rattle.mc_pattern_text.specs.Canonical.{pattern_text}
 use Rattle.mc_change_text.specs.Canonical.{change_text}
 use Rattle.mc_shift.specs.Shifted.{shifted_form}
 use Rattle.mc_document.specs.Documents.{PlainDocument}
-use Rattle.mc_document.specs.Kinds.{circuits_and_patterns}
+use Rattle.mc_document.specs.Documents.{circuits_and_patterns}
 use Rattle.mc_top.specs.Due.{Due}
 use Rattle.mc_top.specs.Source.{source_in, due_from}
 use Rattle.mc_top.specs.Command.{Command}

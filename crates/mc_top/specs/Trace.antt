@@ -10,7 +10,7 @@ use Rattle.mc_rules.specs.Laws.{KeepsPattern}
 use Rattle.mc_derivations.specs.Derivations.{LeadsToStandard}
 use Rattle.mc_trace_text.specs.Traces.{CanBeWritten}
 use Rattle.mc_document.specs.Documents.{PlainDocument, document_text, traced}
-use Rattle.mc_document.specs.Kinds.{circuits_and_patterns}
+use Rattle.mc_document.specs.Documents.{circuits_and_patterns}
 use Rattle.mc_top.specs.Due.{Due, IsDueUnless, holding}
 use Rattle.mc_top.specs.Source.{source_in, source_limit}
 use Rattle.mc_top.specs.Command.{Command}

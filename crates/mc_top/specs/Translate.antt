@@ -7,7 +7,7 @@ use Rattle.mc_model.specs.Amplitude.{HasTableAtEachBranch}
 use Rattle.mc_model.specs.Translation.{translation}
 use Rattle.mc_pattern_text.specs.Canonical.{pattern_text}
 use Rattle.mc_document.specs.Documents.{PlainDocument, circuit_in}
-use Rattle.mc_document.specs.Kinds.{only_circuits}
+use Rattle.mc_document.specs.Documents.{only_circuits}
 use Rattle.mc_top.specs.Due.{Due, due_unless, holding}
 use Rattle.mc_top.specs.Source.{translation_limit}
 use Rattle.mc_top.specs.Command.{Command}

@@ -1,9 +1,9 @@
 //! `beside`: two patterns as one, side by side.
 
-ghost use Rattle.std.specs.Prelude.{◌≡◌, OnOk, IfOk, IsSomeAnd};
+ghost use Rattle.std.specs.Prelude.{OnOk, IfOk, IsSomeAnd};
 ghost use Rattle.mc_compose.specs.Composed.{side_by_side};
 ghost use Rattle.mc_document.specs.Documents.{plain_document};
-ghost use Rattle.mc_document.specs.Kinds.{IsTaken, two_patterns};
+ghost use Rattle.mc_document.specs.Documents.{IsTaken, two_patterns};
 ghost use Rattle.mc_top.specs.Beside.{MeansBeside, MeansSides, due_beside};
 ghost use Rattle.mc_top.specs.Due.{Gives, Holds};
 ghost use Rattle.mc_top.specs.TwoPatterns.{due_pattern};

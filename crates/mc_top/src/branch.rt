@@ -9,7 +9,7 @@ ghost use Rattle.mc_pattern.specs.Patterns.{measured_count};
 ghost use Rattle.mc_run.specs.Limits.{branch_limit};
 ghost use Rattle.mc_run_text.specs.Runs.{branch_run};
 ghost use Rattle.mc_document.specs.Documents.{plain_document};
-ghost use Rattle.mc_document.specs.Kinds.{IsTaken, patterns_and_graphs};
+ghost use Rattle.mc_document.specs.Documents.{IsTaken, patterns_and_graphs};
 ghost use Rattle.mc_top.specs.Branch.{MeansOutcomes, due_branch, due_outcomes};
 ghost use Rattle.mc_top.specs.Commands.{is_one};
 ghost use Rattle.mc_top.specs.Run.{MeansBranch};

@@ -1,8 +1,8 @@
 //! `chain`: two patterns as one, the second behind the first.
 
-ghost use Rattle.std.specs.Prelude.{◌≡◌, OnOk, IfOk, IsSomeAnd};
+ghost use Rattle.std.specs.Prelude.{OnOk, IfOk, IsSomeAnd};
 ghost use Rattle.mc_document.specs.Documents.{plain_document};
-ghost use Rattle.mc_document.specs.Kinds.{IsTaken, two_patterns};
+ghost use Rattle.mc_document.specs.Documents.{IsTaken, two_patterns};
 ghost use Rattle.mc_top.specs.Chain.{MeansChain, MeansChained, due_chain, due_chained};
 ghost use Rattle.mc_top.specs.Due.{Gives, Holds};
 

@@ -4,7 +4,7 @@ ghost use Rattle.std.specs.Prelude.{◌≡◌, ◌≤◌, None, Some, OnOk, IfOk
 ghost use Rattle.mc_cert.specs.Rules.{breach, breach_of};
 ghost use Rattle.mc_cert_text.specs.Certs.{IsCertOf, plain_cert};
 ghost use Rattle.mc_document.specs.Documents.{IsDocument, plain_document};
-ghost use Rattle.mc_document.specs.Kinds.{IsTaken, certified_kinds};
+ghost use Rattle.mc_document.specs.Documents.{IsTaken, certified_kinds};
 ghost use Rattle.mc_top.specs.Check.{IsDueCheck, IsDueTraced, MeansCheck, MeansTraceVerdict};
 ghost use Rattle.mc_top.specs.Check.{MeansVerdict, breach_in, due_verdict};
 ghost use Rattle.mc_top.specs.Check.{verdict_text};

@@ -5,7 +5,7 @@ ghost use Rattle.mc_model.specs.Limits.{most_qubits};
 ghost use Rattle.mc_model.specs.Steps.{is_permitted};
 ghost use Rattle.mc_model.specs.Translation.{qubit_count};
 ghost use Rattle.mc_document.specs.Documents.{IsDocument, plain_document};
-ghost use Rattle.mc_document.specs.Kinds.{IsTaken, only_circuits};
+ghost use Rattle.mc_document.specs.Documents.{IsTaken, only_circuits};
 ghost use Rattle.mc_top.specs.Compile.{IsDueCompile, IsDueCompiled, MeansCompile};
 ghost use Rattle.mc_top.specs.Due.{GivesDue, Holds};
 

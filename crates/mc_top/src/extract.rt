@@ -10,7 +10,7 @@ ghost use Rattle.mc_graph.specs.Flows.{IsCausalFlowOf, layer_in, next_in};
 ghost use Rattle.mc_extract.specs.Answers.{IsFoundStuck};
 ghost use Rattle.mc_extract.specs.Extracted.{gate_count};
 ghost use Rattle.mc_document.specs.Documents.{IsDocument, plain_document};
-ghost use Rattle.mc_document.specs.Kinds.{IsTaken, every_source};
+ghost use Rattle.mc_document.specs.Documents.{IsTaken, every_source};
 ghost use Rattle.mc_top.specs.Due.{GivesDue};
 ghost use Rattle.mc_top.specs.Extract.{gate_limit, IsDueExtract, IsExtractDue, IsExtractionDue};
 ghost use Rattle.mc_top.specs.Extract.{IsStuckDue, MeansExtract};

@@ -6,7 +6,7 @@ ghost use Rattle.mc_graph.specs.Flows.{IsChosenFlowOf};
 ghost use Rattle.mc_graph.specs.Refuters.{IsChosenRefuterOf};
 ghost use Rattle.mc_gflow.specs.Answers.{HasNoFlow, IsChosen};
 ghost use Rattle.mc_document.specs.Documents.{plain_document};
-ghost use Rattle.mc_document.specs.Kinds.{IsTaken, every_source};
+ghost use Rattle.mc_document.specs.Documents.{IsTaken, every_source};
 ghost use Rattle.mc_top.specs.Due.{GivesDue};
 ghost use Rattle.mc_top.specs.Flow.{IsDueFlow, IsFlowDue, IsFoundDue, IsRefuterDue, MeansFlow};
 

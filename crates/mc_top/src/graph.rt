@@ -6,7 +6,7 @@ ghost use Rattle.mc_model.specs.Steps.{is_permitted};
 ghost use Rattle.mc_graph.specs.Laws.{KeepsZeroBranch};
 ghost use Rattle.mc_graph_text.specs.Canonical.{graph_text};
 ghost use Rattle.mc_document.specs.Documents.{plain_document};
-ghost use Rattle.mc_document.specs.Kinds.{IsTaken, circuits_and_patterns};
+ghost use Rattle.mc_document.specs.Documents.{IsTaken, circuits_and_patterns};
 ghost use Rattle.mc_top.specs.Due.{Gives, Holds, holding};
 ghost use Rattle.mc_top.specs.Graph.{MeansGraph, due_graph};
 

@@ -5,7 +5,7 @@ ghost use Rattle.mc_model.specs.Graph.{graph_of as pattern_graph};
 ghost use Rattle.mc_model.specs.Steps.{is_permitted};
 ghost use Rattle.mc_model.specs.Translation.{translation};
 ghost use Rattle.mc_document.specs.Documents.{plain_document};
-ghost use Rattle.mc_document.specs.Kinds.{IsTaken, every_source};
+ghost use Rattle.mc_document.specs.Documents.{IsTaken, every_source};
 ghost use Rattle.mc_top.specs.Due.{IsLimit};
 ghost use Rattle.mc_top.specs.GraphSource.{source_graph};
 ghost use Rattle.mc_top.specs.Source.{source_limit, translation_limit};

@@ -6,7 +6,7 @@ ghost use Rattle.mc_model.specs.Graph.{size};
 ghost use Rattle.mc_model.specs.Steps.{is_permitted};
 ghost use Rattle.mc_graph.specs.Flows.{IsChosenFlowOf};
 ghost use Rattle.mc_document.specs.Documents.{plain_document};
-ghost use Rattle.mc_document.specs.Kinds.{IsTaken, every_source};
+ghost use Rattle.mc_document.specs.Documents.{IsTaken, every_source};
 ghost use Rattle.mc_least.specs.Chosen.{IsChosenBoundOf};
 ghost use Rattle.mc_top.specs.Due.{GivesDue};
 ghost use Rattle.mc_top.specs.Least.{IsBoundDue, IsBoundFoundDue, IsDueLeast, IsLeastDue};

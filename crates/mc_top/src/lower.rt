@@ -2,7 +2,7 @@
 
 ghost use Rattle.std.specs.Prelude.{◌≡◌, None, OnOk, IfOk, IfErr, IsSomeAnd};
 ghost use Rattle.mc_document.specs.Documents.{plain_document};
-ghost use Rattle.mc_document.specs.Kinds.{IsTaken, only_gates};
+ghost use Rattle.mc_document.specs.Documents.{IsTaken, only_gates};
 ghost use Rattle.mc_gates.specs.Lowering.{lowered as lowering_of};
 ghost use Rattle.mc_top.specs.Due.{Gives, Holds, IsLimit};
 ghost use Rattle.mc_top.specs.Lower.{HasGateTable, MeansLower, due_lower, due_lowering};

@@ -6,7 +6,7 @@ ghost use Rattle.mc_model.specs.Steps.{is_permitted};
 ghost use Rattle.mc_pattern_text.specs.Canonical.{pattern_text};
 ghost use Rattle.mc_graph.specs.Flows.{IsChosenFlowOf, layer_in, sets_in};
 ghost use Rattle.mc_document.specs.Documents.{IsDocument, plain_document};
-ghost use Rattle.mc_document.specs.Kinds.{IsTaken, every_source};
+ghost use Rattle.mc_document.specs.Documents.{IsTaken, every_source};
 ghost use Rattle.mc_top.specs.Due.{GivesDue};
 ghost use Rattle.mc_top.specs.Make.{IsDueMake, IsMakingDue, MeansMake};
 

@@ -1,9 +1,9 @@
 //! `print`: a document in canonical spelling.
 
-ghost use Rattle.std.specs.Prelude.{◌≡◌, OnOk, IfOk, IsSomeAnd, IsTrue};
+ghost use Rattle.std.specs.Prelude.{OnOk, IfOk, IsSomeAnd, IsTrue};
 ghost use Rattle.mc_model.specs.Steps.{is_permitted};
 ghost use Rattle.mc_document.specs.Documents.{IsDocument, plain_document};
-ghost use Rattle.mc_document.specs.Kinds.{IsTaken, every_kind};
+ghost use Rattle.mc_document.specs.Documents.{IsTaken, every_kind};
 ghost use Rattle.mc_top.specs.Due.{Gives, Holds};
 ghost use Rattle.mc_top.specs.Print.{IsReadBack, due_print};
 

@@ -1,10 +1,10 @@
 //! `run`: the table of a circuit, or of all branches of a pattern or of a graph.
 
-ghost use Rattle.std.specs.Prelude.{◌≡◌, OnOk, IfOk, IsSomeAnd, IsTrue};
+ghost use Rattle.std.specs.Prelude.{OnOk, IfOk, IsSomeAnd, IsTrue};
 ghost use Rattle.mc_model.specs.Graph.{zero_pattern as bare_pattern};
 ghost use Rattle.mc_model.specs.Steps.{is_permitted};
 ghost use Rattle.mc_document.specs.Documents.{plain_document};
-ghost use Rattle.mc_document.specs.Kinds.{IsTaken, every_source};
+ghost use Rattle.mc_document.specs.Documents.{IsTaken, every_source};
 ghost use Rattle.mc_top.specs.Due.{Gives, Holds};
 ghost use Rattle.mc_top.specs.Run.{MeansBranches, MeansRun, MeansTable, due_branches, due_run};
 ghost use Rattle.mc_top.specs.Run.{due_table};

@@ -5,7 +5,7 @@ ghost use Rattle.mc_model.specs.Steps.{is_permitted};
 ghost use Rattle.mc_model.specs.StandardForm.{standard_form};
 ghost use Rattle.mc_shift.specs.Shifted.{shifted_form};
 ghost use Rattle.mc_document.specs.Documents.{plain_document};
-ghost use Rattle.mc_document.specs.Kinds.{IsTaken, circuits_and_patterns};
+ghost use Rattle.mc_document.specs.Documents.{IsTaken, circuits_and_patterns};
 ghost use Rattle.mc_top.specs.Due.{Gives, Holds};
 ghost use Rattle.mc_top.specs.Shift.{IsShiftedBy, MeansShift, due_shift, shifted_text};
 
@@ -49,6 +49,6 @@ fn print_shifted<const H: usize>(alloc: Global, source: &Pattern<H>) -> Result<V
     has_one_shifted_form();
     let standard = standardise(alloc, source)?;
     let (shifted, change) = shift(alloc, &standard)?;
-    let pattern = shifted.as_pattern(alloc)?;
+    let pattern = shifted.as_pattern()?;
     print_with_change(alloc, &pattern, &change)
 }

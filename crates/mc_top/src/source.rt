@@ -6,7 +6,7 @@ ghost use Rattle.mc_model.specs.Ring.{ring};
 ghost use Rattle.mc_model.specs.Steps.{is_permitted};
 ghost use Rattle.mc_model.specs.Translation.{translation};
 ghost use Rattle.mc_document.specs.Documents.{plain_document};
-ghost use Rattle.mc_document.specs.Kinds.{IsTaken, circuits_and_patterns};
+ghost use Rattle.mc_document.specs.Documents.{IsTaken, circuits_and_patterns};
 ghost use Rattle.mc_top.specs.Due.{IsLimit};
 ghost use Rattle.mc_top.specs.Source.{source_in, source_limit, translation_limit};
 

@@ -5,7 +5,7 @@ ghost use Rattle.mc_model.specs.Steps.{is_permitted};
 ghost use Rattle.mc_model.specs.StandardForm.{standard_form};
 ghost use Rattle.mc_pattern_text.specs.Canonical.{pattern_text};
 ghost use Rattle.mc_document.specs.Documents.{plain_document};
-ghost use Rattle.mc_document.specs.Kinds.{IsTaken, circuits_and_patterns};
+ghost use Rattle.mc_document.specs.Documents.{IsTaken, circuits_and_patterns};
 ghost use Rattle.mc_top.specs.Due.{Gives, Holds};
 ghost use Rattle.mc_top.specs.Standard.{IsAlikeStandardised, MeansStandard, due_standard};
 
@@ -46,6 +46,6 @@ fn print_standard<const H: usize>(alloc: Global, source: &Pattern<H>) -> Result<
     ensures meaning { OnOk result (IsAlikeStandardised H source.now) }
 {
     let standard = standardise(alloc, source)?;
-    let pattern = standard.as_pattern(alloc)?;
+    let pattern = standard.as_pattern()?;
     print_pattern(alloc, &pattern)
 }

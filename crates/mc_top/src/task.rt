@@ -6,7 +6,7 @@ ghost use Rattle.std.specs.Option.{option_map};
 ghost use Rattle.std.specs.String.{string_bytes};
 ghost use Rattle.mc_model.specs.Steps.{is_permitted};
 ghost use Rattle.mc_document.specs.Documents.{IsDocument, plain_document};
-ghost use Rattle.mc_document.specs.Kinds.{IsTaken};
+ghost use Rattle.mc_document.specs.Documents.{IsTaken};
 ghost use Rattle.mc_top.specs.Commands.{are_outcomes, asked_in, command_of, is_count, is_outcome};
 ghost use Rattle.mc_top.specs.Commands.{may_deny, plain_task};
 ghost use Rattle.mc_top.specs.Due.{GivesDue, Holds};

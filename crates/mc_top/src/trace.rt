@@ -3,7 +3,7 @@
 ghost use Rattle.std.specs.Prelude.{◌≡◌, ◌≤◌, None, length, OnOk, IfOk, IfErr, IsTrue};
 ghost use Rattle.mc_model.specs.Steps.{is_permitted};
 ghost use Rattle.mc_document.specs.Documents.{plain_document};
-ghost use Rattle.mc_document.specs.Kinds.{IsTaken, circuits_and_patterns};
+ghost use Rattle.mc_document.specs.Documents.{IsTaken, circuits_and_patterns};
 ghost use Rattle.mc_top.specs.Due.{GivesDue, Holds, IsLimit, holding};
 ghost use Rattle.mc_top.specs.Trace.{IsDueTrace, IsTraceDue, IsTracedText, MeansTrace, MeansTraced};
 ghost use Rattle.mc_top.specs.Trace.{trace_limit};

@@ -1,12 +1,12 @@
 //! `translate`: the pattern of a circuit.
 
-ghost use Rattle.std.specs.Prelude.{◌≡◌, OnOk, IfOk, IsSomeAnd, IsTrue};
+ghost use Rattle.std.specs.Prelude.{OnOk, IfOk, IsSomeAnd, IsTrue};
 ghost use Rattle.mc_model.specs.Amplitude.{HasTableAtEachBranch};
 ghost use Rattle.mc_model.specs.Ring.{ring};
 ghost use Rattle.mc_model.specs.Steps.{is_permitted};
 ghost use Rattle.mc_model.specs.Translation.{translation};
 ghost use Rattle.mc_document.specs.Documents.{plain_document};
-ghost use Rattle.mc_document.specs.Kinds.{IsTaken, only_circuits};
+ghost use Rattle.mc_document.specs.Documents.{IsTaken, only_circuits};
 ghost use Rattle.mc_top.specs.Due.{Gives, Holds};
 ghost use Rattle.mc_top.specs.Translate.{MeansTranslate, due_translate};
 ghost use Rattle.mc_top.specs.Translate.{due_translation};

@@ -1,8 +1,7 @@
 //! The one pattern that two make.
 
-ghost use Rattle.std.specs.Prelude.{◌≡◌, ℕ, None, Some, Err, IfOk, OnOk, IsTrue};
+ghost use Rattle.std.specs.Prelude.{◌≡◌, ℕ, None, Some, Err, IfOk, OnOk};
 ghost use Rattle.mc_model.specs.Pattern.{Pattern as PlainPattern};
-ghost use Rattle.mc_model.specs.Steps.{is_permitted};
 ghost use Rattle.mc_compose.specs.Limits.{pattern_limit};
 ghost use Rattle.mc_top.specs.Due.{Gives, Holds};
 ghost use Rattle.mc_top.specs.TwoPatterns.{due_pattern};

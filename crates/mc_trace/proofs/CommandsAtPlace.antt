@@ -6,9 +6,9 @@ use Rattle.std.proofs.Math.Seq.{get_or-append_seam, take-append_seam, drop-appen
 use Rattle.std.proofs.Math.ListN.{get_or-map}
 use Rattle.mc_model.specs.Pattern.{Command}
 use Rattle.mc_standard.proofs.Edits.{one_at, two_at}
-use Rattle.mc_trace.specs.declared.change.Change.{Change}
-use Rattle.mc_trace.specs.declared.change.Change.TheVariants as change
-use Rattle.mc_trace.specs.Changes.{reach, changed}
+use Rattle.mc_standard.specs.declared.change.Change.{Change}
+use Rattle.mc_standard.specs.declared.change.Change.TheVariants as change
+use Rattle.mc_standard.specs.Changes.{reach, changed}
 
 -- ---- reads
 

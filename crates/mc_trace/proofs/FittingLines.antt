@@ -272,13 +272,6 @@ two_concerned coded.Turn f g = absurd (f refl)
 two_concerned coded.DropEmpty f g = absurd (g refl)
 two_concerned rule f g = refl
 
-pub one_concerned : (rule : coded.the_data) → (rule ≡ coded.Turn) ⊎ (rule ≡ coded.DropEmpty) →
-    rule_reach (plain_rule rule) ≡ 1
-one_concerned coded.Turn k = refl
-one_concerned coded.DropEmpty k = refl
-one_concerned rule (inl k) = absurd (cc k)
-one_concerned rule (inr k) = absurd (cc k)
-
 pub not_of_one : (rule : Rule) (c : Command) (new : List Command) → rule_reach rule ≡ 2 →
     Rewrites rule (c ∷ []) new → ⊥
 not_of_one rule c new e r = let h = rewritten_reach rule (c ∷ []) new r in absurd (omega arith)

@@ -6,8 +6,9 @@ use Rattle.std.specs.Prelude.{Option, None, Some, MatchOption}
 use mathlib.Core.Logic.{inl, inr}
 use Rattle.mc_model.specs.Pattern.{Command}
 use Rattle.mc_model.specs.Derivation.{Rule, Turn, DropEmpty, Rewrites, Use}
-use Rattle.mc_trace.specs.declared.change.Change.{Change}
-use Rattle.mc_trace.specs.Changes.{reach, changed, LeadsBy}
+use Rattle.mc_standard.specs.declared.change.Change.{Change}
+use Rattle.mc_standard.specs.Changes.{reach, changed}
+use Rattle.mc_trace.specs.Changes.{LeadsBy}
 use Rattle.mc_derivations.specs.Following.{rule_reach, Leads, LeadsNowhere, LacksCommands, Misfits}
 use Rattle.mc_trace.proofs.CommandsAtPlace.{IsOne, IsTwo, two_here, one_here, here_is, next_is}
 use Rattle.mc_trace.proofs.CommandsAtPlace.{changed_two, changed_one, new_list}

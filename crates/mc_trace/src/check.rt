@@ -85,7 +85,7 @@ fn are_form<const H: usize>(
         (map plain_command commands.now ≡ standard_commands p.now.inputs p.now.commands)
         (map plain_command commands.now ≡ standard_commands p.now.inputs p.now.commands → ⊥)) }
 {
-    let form = standardise(alloc, p)?.as_pattern(alloc)?;
+    let form = standardise(alloc, p)?.as_pattern()?;
     Ok(are_same(commands, form.commands()))
 }
 

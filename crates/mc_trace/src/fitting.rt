@@ -1,18 +1,17 @@
 //! Whether commands are those of a rule's line, and what the rule makes of them.
 
-ghost use Rattle.std.specs.Prelude.{◌≡◌, ℕ, List, [], ◌∷◌, IfOk, MatchOption};
+ghost use Rattle.std.specs.Prelude.{◌≡◌, List, [], ◌∷◌, IfOk, MatchOption};
 ghost use Rattle.mc_model.specs.Derivation.{Rewrites, Turn, DropEmpty, XE, XM, ZM, Join};
 ghost use Rattle.mc_model.specs.Pattern.{Command as Plain};
 ghost use Rattle.mc_model.specs.Signals.{signal_sum};
 ghost use Rattle.mc_pattern.specs.Commands.{plain_command};
 ghost use Rattle.mc_standard.specs.Uses.{plain_rule};
-ghost use Rattle.mc_trace.specs.Changes.{reach, changed};
+ghost use Rattle.mc_standard.specs.Changes.{reach, changed};
 ghost use Rattle.mc_trace.specs.Fitting.{shape_of, names_it, uses_it, fits_line, made};
 
-use crate::change::Change;
 use mc_model::Memory;
 use mc_pattern::{Command, Signal};
-use mc_standard::Rule;
+use mc_standard::{Change, Rule};
 
 /// The kinds of command, by number.
 const PREP: u8 = 0;

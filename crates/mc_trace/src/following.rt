@@ -1,17 +1,16 @@
 //! Uses of rules that are given, and not chosen.
 
-ghost use Rattle.std.specs.Prelude.{◌≡◌, ◌⊎◌, ◌+◌, ◌<◌, ◌≤◌, ℕ, length, map, IfOk, OnErr};
+ghost use Rattle.std.specs.Prelude.{◌≡◌, ◌⊎◌, ◌+◌, ◌<◌, ◌≤◌, length, map, IfOk, OnErr};
 ghost use Rattle.std.specs.Prelude.{MatchOption, MatchBool};
 ghost use Rattle.mc_pattern.specs.Commands.{plain_command};
 ghost use Rattle.mc_standard.specs.Uses.{plain_rule, plain_use};
 ghost use Rattle.mc_trace.specs.Changes.{LeadsBy};
 ghost use Rattle.mc_derivations.specs.Following.{rule_reach, Leads, LeadsNowhere, Misfits};
 
-use crate::change::{Change, apply};
 use crate::fitting::{change_one, change_two};
 use mc_model::Memory;
 use mc_pattern::Command;
-use mc_standard::{Rule, Use};
+use mc_standard::{Change, Rule, Use};
 
 /// How many commands a rule concerns.
 fn reach_of(rule: Rule) -> usize
@@ -72,7 +71,7 @@ pub(crate) fn follow<const H: usize>(
     let i = u.place as usize - 1;
     match change_at(commands.as_slice(), i, u.rule)? {
         Some(change) => {
-            apply(commands, i, change)?;
+            change.apply(commands, i)?;
             Ok(None)
         }
         None => Ok(Some(2)),

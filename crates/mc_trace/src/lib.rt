@@ -4,7 +4,6 @@
 //! A derivation is seen as the list of its uses.
 #![tactic(auto)]
 
-mod change;
 mod check;
 mod choosing;
 mod copy;

@@ -1,6 +1,6 @@
 //! The derivation of the standard form, a command at a time.
 
-ghost use Rattle.std.specs.Prelude.{◌≡◌, ◌≤◌, [], length, map, All, IfOk, OnOk};
+ghost use Rattle.std.specs.Prelude.{◌≤◌, length, map, All, IfOk, OnOk};
 ghost use Rattle.mc_pattern.specs.Commands.{plain_command};
 ghost use Rattle.mc_rules.specs.Settled.{IsSettled};
 ghost use Rattle.mc_trace.specs.Choosing.{IsSomewhereValid};

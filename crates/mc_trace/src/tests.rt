@@ -15,7 +15,7 @@ fn entangled_twice(rt: &impl Abort, alloc: Global) -> Result<Pattern<4>, Fail> {
     let mut builder: Builder<4> = Builder::new(alloc, inputs)?;
     assert_eq!(rt; builder.push(Command::Ent(0, 1)), Ok(()));
     assert_eq!(rt; builder.push(Command::Ent(1, 0)), Ok(()));
-    match builder.finish(alloc, &[0, 1]) {
+    match builder.finish(&[0, 1]) {
         Ok(pattern) => Ok(pattern),
         Err((_, end)) => Err(Fail::from(end)),
     }

@@ -1,7 +1,6 @@
 //! The section of a trace.
 
-ghost use Rattle.std.specs.Prelude.{◌≡◌, ◌∷◌, ◌++◌, [], None, OnOk, IfErr, length};
-ghost use Rattle.std.specs.Prelude.{if◌then◌else◌};
+ghost use Rattle.std.specs.Prelude.{◌≡◌, [], None, OnOk, IfErr};
 ghost use Rattle.mc_text.specs.Stops.{IsStop};
 ghost use Rattle.mc_standard.specs.Uses.{plain_rule};
 ghost use Rattle.mc_trace_text.specs.declared.section.Role.TheVariants as role;

@@ -1,7 +1,6 @@
 -- How large a translation is.
-use Rattle.std.specs.Prelude.{ℕ, ◌+◌, Bool, true, false}
-use Rattle.mc_model.specs.Pattern.{Circuit, Gate, J, CZ, wires}
-use Rattle.mc_model.specs.Amplitude.{j_count}
+use Rattle.std.specs.Prelude.{Bool, true, false}
+use Rattle.mc_model.specs.Pattern.{Gate, J, CZ}
 
 abbrev pub is_j : Gate → Bool
 is_j (J v a) = true

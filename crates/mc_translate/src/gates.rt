@@ -3,7 +3,7 @@
 ghost use Rattle.std.specs.Prelude.{◌≡◌, ◌+◌, ◌<◌, ◌≤◌, false, IfOk, OnOk, length};
 ghost use Rattle.mc_model.specs.Limits.{most_qubits, most_commands};
 ghost use Rattle.mc_model.specs.Signals.{signal_of};
-ghost use Rattle.mc_model.specs.Valid.{IsLive, prepared, measured};
+ghost use Rattle.mc_model.specs.Valid.{IsLive, measured};
 ghost use Rattle.mc_circuit.specs.Gates.{plain_gate};
 ghost use Rattle.mc_translate.specs.Steps.{with_j, with_gate, qubits_behind, CanStep};
 

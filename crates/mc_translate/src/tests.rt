@@ -18,7 +18,7 @@ fn one_j(rt: &impl Abort, alloc: Global) -> Result<Circuit<4>, Fail> {
         angle: Angle::of(1),
     };
     assert_eq!(rt; builder.push(gate), Ok(()));
-    match builder.finish(alloc, &[0]) {
+    match builder.finish(&[0]) {
         Ok(circuit) => Ok(circuit),
         Err((_, end)) => Err(Fail::from(end)),
     }

@@ -61,7 +61,7 @@ fn build<const H: usize>(alloc: Global, circuit: &Circuit<H>) -> Result<Pattern<
         push_gate(alloc, &mut builder, &mut at, gate)?;
     }
     let outputs = qubits_of(alloc, &at, circuit.out())?;
-    builder.finish_listing(alloc, &outputs)
+    builder.finish_listing(&outputs)
 }
 
 /// The pattern that does what a circuit does: each `J` measures its wire's qubit and moves the wire

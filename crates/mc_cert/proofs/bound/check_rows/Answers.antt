@@ -1,4 +1,4 @@
-use Rattle.std.proofs.Common.{◌∙◌, sym, ap₂, ℕ, ◌+◌, refl, length, [], ◌∷◌, arith}
+use Rattle.std.proofs.Common.{◌∙◌, sym, ap₂, ℕ, ◌+◌, [], ◌∷◌, arith}
 use Rattle.std.specs.Prelude.{Option, None, All, ◌<◌}
 use Rattle.mc_model.specs.Graph.{size}
 use Rattle.mc_cert.specs.Rules.{breach_or}

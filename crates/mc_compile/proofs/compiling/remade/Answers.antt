@@ -1,4 +1,4 @@
-use Rattle.std.proofs.Common.{◌≡◌, ℕ, sym, ◌∙◌, ap, length, arith}
+use Rattle.std.proofs.Common.{◌≡◌, sym, ◌∙◌, ap, length, arith}
 use mathlib.Core.Path.{subst}
 use Rattle.mc_model.specs.Pattern.{Pattern}
 use Rattle.mc_model.specs.StandardForm.{standard_form}

@@ -1,4 +1,4 @@
-use Rattle.std.proofs.Common.{arith, ℕ, ◌≡◌, ◌≢◌, ◌^◌, ◌<◌, ◌≤◌, ◌∙◌, sym, ap, length}
+use Rattle.std.proofs.Common.{arith, ℕ, ◌≡◌, ◌≢◌, ◌<◌, ◌∙◌, sym, ap, length}
 use Rattle.std.proofs.Common.{below_more}
 use Rattle.std.proofs.Common.{get_or-set_same, get_or-set_other, w64, FitsSigned, ◌+ℤ◌, ℤ}
 use lib.IntN.{neg_ℤ}
@@ -6,7 +6,6 @@ use Rattle.std.specs.Int.RustNames.{unsigned_abs}
 use Rattle.std.proofs.lemmas.Int.{ints, to_z-of_z, fits_signed_from_abs}
 use Rattle.mc_model.specs.Ring.{minus, rotations, length-minus}
 use Rattle.mc_model.proofs.RingLemmas.{length-rotations}
-use Rattle.mc_cyclo.specs.Height.{height}
 use Rattle.mc_cyclo.specs.Heights.{height-rotations}
 use Rattle.mc_cyclo.proofs.Places.{at, at-height, at-minus, sum_by_places}
 use Rattle.mc_cyclo.proofs.coordinates.cross.Goals as goal

@@ -1,9 +1,9 @@
-use Rattle.mc_document.proofs.CanonicalTexts.{AreRead, all_clean, all_spelled, all_stepped}
-use Rattle.mc_document.proofs.CanonicalTexts.{gates_stepped, two_spelled}
+use Rattle.mc_document.proofs.ByKind.{AreRead, all_clean, all_spelled, all_stepped, two_spelled}
+use Rattle.mc_document.proofs.GateDocuments.{gates_stepped}
 use Rattle.mc_document.proofs.laws.canonical_texts_are_read.Goals as goal
 
-pub returns-clause-clean : goal.returns-clause-clean
-returns-clause-clean g c =
+pub returns : goal.returns
+returns g c =
     let circuits = c.canonical_texts_are_read.ensures in
     let patterns = c.canonical_texts_are_read-2.ensures in
     let changes = c.change_texts_are_read.ensures in
@@ -14,140 +14,45 @@ returns-clause-clean g c =
     let known : AreRead g.row.H =
     record {
       circuits = λ x h. record {
-        section = record { clean = circuits.clean x h; whole = circuits.whole x h };
+        clean = circuits.clean x h;
+        whole = circuits.whole x h;
         same = circuits.same x h;
       };
       patterns = λ p h. record {
-        section = record { clean = patterns.clean p h; whole = patterns.whole p h };
+        clean = patterns.clean p h;
+        whole = patterns.whole p h;
         same = patterns.same p h;
       };
       changes = λ p rows h fits sets. record {
-        section = record {
-          clean = changes.clean p rows _ h.valid fits sets;
-          whole = changes.whole p rows h.valid fits sets;
-        };
+        clean = changes.clean p rows _ h.valid fits sets;
+        whole = changes.whole p rows h.valid fits sets;
         same = changes.same p rows h.valid fits sets;
       };
       traces = λ uses h. record {
-        section = record { clean = traces.clean uses _ h; whole = traces.whole uses h };
+        clean = traces.clean uses _ h;
+        whole = traces.whole uses h;
         same = traces.same uses h;
       };
       graphs = λ x h. record {
-        section = record { clean = graphs.clean x h; whole = graphs.whole x h };
+        clean = graphs.clean x h;
+        whole = graphs.whole x h;
         same = graphs.same x h;
       };
       certs = λ x cert h fits. record {
-        section = record {
-          clean = certs.clean x cert _ h.open_graph fits;
-          whole = certs.whole x cert h.open_graph fits;
-        };
+        clean = certs.clean x cert _ h.open_graph fits;
+        whole = certs.whole x cert h.open_graph fits;
         same = certs.same x cert h.open_graph fits;
       };
       gates = λ x h. record {
-        section = record { clean = lists.clean x h; whole = lists.whole x h };
+        clean = lists.clean x h;
+        whole = lists.whole x h;
         same = lists.same x h;
       };
     } in
-    all_clean g.row.H c.requires known
-
-pub returns-clause-same : goal.returns-clause-same
-returns-clause-same g c =
-    let circuits = c.canonical_texts_are_read.ensures in
-    let patterns = c.canonical_texts_are_read-2.ensures in
-    let changes = c.change_texts_are_read.ensures in
-    let traces = c.trace_texts_are_read.ensures in
-    let graphs = c.canonical_texts_are_read-3.ensures in
-    let certs = c.cert_texts_are_read.ensures in
-    let lists = c.gate_texts_are_read.ensures in
-    let known : AreRead g.row.H =
     record {
-      circuits = λ x h. record {
-        section = record { clean = circuits.clean x h; whole = circuits.whole x h };
-        same = circuits.same x h;
-      };
-      patterns = λ p h. record {
-        section = record { clean = patterns.clean p h; whole = patterns.whole p h };
-        same = patterns.same p h;
-      };
-      changes = λ p rows h fits sets. record {
-        section = record {
-          clean = changes.clean p rows _ h.valid fits sets;
-          whole = changes.whole p rows h.valid fits sets;
-        };
-        same = changes.same p rows h.valid fits sets;
-      };
-      traces = λ uses h. record {
-        section = record { clean = traces.clean uses _ h; whole = traces.whole uses h };
-        same = traces.same uses h;
-      };
-      graphs = λ x h. record {
-        section = record { clean = graphs.clean x h; whole = graphs.whole x h };
-        same = graphs.same x h;
-      };
-      certs = λ x cert h fits. record {
-        section = record {
-          clean = certs.clean x cert _ h.open_graph fits;
-          whole = certs.whole x cert h.open_graph fits;
-        };
-        same = certs.same x cert h.open_graph fits;
-      };
-      gates = λ x h. record {
-        section = record { clean = lists.clean x h; whole = lists.whole x h };
-        same = lists.same x h;
-      };
-    } in
-    all_spelled g.row.H c.requires known
-
-pub returns-clause-two : goal.returns-clause-two
-returns-clause-two g c =
-    let circuits = c.canonical_texts_are_read.ensures in
-    let patterns = c.canonical_texts_are_read-2.ensures in
-    let changes = c.change_texts_are_read.ensures in
-    let traces = c.trace_texts_are_read.ensures in
-    let graphs = c.canonical_texts_are_read-3.ensures in
-    let certs = c.cert_texts_are_read.ensures in
-    let lists = c.gate_texts_are_read.ensures in
-    let known : AreRead g.row.H =
-    record {
-      circuits = λ x h. record {
-        section = record { clean = circuits.clean x h; whole = circuits.whole x h };
-        same = circuits.same x h;
-      };
-      patterns = λ p h. record {
-        section = record { clean = patterns.clean p h; whole = patterns.whole p h };
-        same = patterns.same p h;
-      };
-      changes = λ p rows h fits sets. record {
-        section = record {
-          clean = changes.clean p rows _ h.valid fits sets;
-          whole = changes.whole p rows h.valid fits sets;
-        };
-        same = changes.same p rows h.valid fits sets;
-      };
-      traces = λ uses h. record {
-        section = record { clean = traces.clean uses _ h; whole = traces.whole uses h };
-        same = traces.same uses h;
-      };
-      graphs = λ x h. record {
-        section = record { clean = graphs.clean x h; whole = graphs.whole x h };
-        same = graphs.same x h;
-      };
-      certs = λ x cert h fits. record {
-        section = record {
-          clean = certs.clean x cert _ h.open_graph fits;
-          whole = certs.whole x cert h.open_graph fits;
-        };
-        same = certs.same x cert h.open_graph fits;
-      };
-      gates = λ x h. record {
-        section = record { clean = lists.clean x h; whole = lists.whole x h };
-        same = lists.same x h;
-      };
-    } in
-    λ p q line column h. two_spelled g.row.H c.requires known p q h.0 h.1
-
-pub returns-clause-step : goal.returns-clause-step
-returns-clause-step g c = λ d h none. all_stepped g.row.H c.requires d none
-
-pub returns-clause-eighths : goal.returns-clause-eighths
-returns-clause-eighths g c = gates_stepped g.row.H
+      clean = all_clean g.row.H c.requires known;
+      same = all_spelled g.row.H c.requires known;
+      two = λ p q line column h. two_spelled g.row.H c.requires known p q h.0 h.1;
+      step = λ d h none. all_stepped g.row.H c.requires d none;
+      eighths = gates_stepped g.row.H;
+    }

@@ -1,5 +1,4 @@
-use Rattle.mc_document.proofs.Taken.{clean_spells}
-use Rattle.mc_document.proofs.ValidDocuments.{spells_valid}
+use Rattle.mc_document.proofs.ByKind.{clean_spells, spells_valid}
 use Rattle.mc_document.proofs.laws.clean_texts_spell_documents.Goals as goal
 
 pub returns-clause-taken : goal.returns-clause-taken

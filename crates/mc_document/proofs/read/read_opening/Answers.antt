@@ -1,5 +1,5 @@
 use Rattle.std.proofs.Common.{◌∙◌, sym}
-use Rattle.mc_document.proofs.Opening.{IsOpened, opened_first, opened_place, opened_spelled}
+use Rattle.mc_document.proofs.Opening.{IsOpened, opened_first, opened_place, opened_spelled, starts}
 use Rattle.mc_document.proofs.read.read_opening.Goals as goal
 
 pub returns-in-Ok-clause-first : goal.returns-in-Ok-clause-first
@@ -41,3 +41,8 @@ returns-in-Ok-clause-place g c =
       last = c.read_header.ensures.end;
     } in
     opened_place _ _ _ _ _ _ o
+
+pub returns-in-Ok-clause-starts : goal.returns-in-Ok-clause-starts
+returns-in-Ok-clause-starts g c =
+    starts c.args.takes c.next_line.new.self.here c.next_line.new.self.lack c.in-Ok.header.kind
+    (c.in-Ok.header.line, c.in-Ok.header.column) c.in-Ok.ensures.header c.in-Ok.ensures.clean

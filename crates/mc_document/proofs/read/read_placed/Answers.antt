@@ -2,7 +2,7 @@ use Rattle.std.proofs.Common.{◌≡◌, ◌∙◌, None, ap, subst, sym}
 use Rattle.mc_lex.specs.Left.{Left}
 use Rattle.mc_text.specs.Stops.{IsEnd}
 use Rattle.mc_document.specs.Sections.{first_in_lines, first_in_text, spelled_lines}
-use Rattle.mc_document.proofs.Taken.{taken_by}
+use Rattle.mc_document.proofs.ByKind.{taken_by}
 use Rattle.mc_document.proofs.read.read_placed.Goals as goal
 
 pub returns-in-Err-clause-err : goal.returns-in-Err-clause-err

@@ -1,11 +1,11 @@
-use Rattle.std.proofs.Common.{◌≡◌, ℕ, Bool, ◌<◌, ◌≤◌, ◌∙◌, ap, arith, length, List}
+use Rattle.std.proofs.Common.{◌≡◌, Bool, ◌<◌, ◌≤◌, ◌∙◌, ap, arith, length, List}
 use Rattle.std.proofs.lemmas.List.{length-replicate}
 use Rattle.std.specs.Prelude.{false}
 use Rattle.mc_model.specs.Bits.{◌⊻◌}
 use Rattle.mc_model.specs.Numbers.{is_member}
 use Rattle.mc_bits.specs.Rows.{bit_of}
 use Rattle.mc_bits.proofs.RowsByBits.{no_bits}
-use Rattle.mc_elim.proofs.FlippedMembers.{flipped_more, flipped_all}
+use Rattle.mc_signal.proofs.Members.{flipped_more, flipped_all}
 use Rattle.mc_elim.proofs.members.row_of.Goals as goal
 
 none_yet : (m : Bool) → (false ⊻ m) ≡ m

@@ -1,12 +1,8 @@
-use Rattle.std.proofs.Common.{◌≡◌, ℕ, List, ◌++◌, ◌∙◌, ap, refl, not, map, arith}
+use Rattle.std.proofs.Common.{◌≡◌, List, ◌∙◌, ap, refl, not, map, arith}
 use Rattle.std.proofs.lemmas.Result.{IfOk-weaker}
-use mathlib.Core.Path.{subst}
-use Rattle.mc_model.specs.Bits.{Bits}
-use Rattle.mc_model.specs.Numbers.{numbers_where}
-use Rattle.mc_model.specs.Pattern.{Command, Pattern}
+use Rattle.mc_model.specs.Pattern.{Command}
 use Rattle.mc_model.specs.Graph.{size, is_output, graph_state, bare_measurement, zero_pattern}
 use Rattle.mc_pattern.specs.Commands.{plain_command}
-use Rattle.mc_pattern.specs.Patterns.{IsPattern}
 use Rattle.mc_graph.specs.Patterns.{pattern_with}
 use Rattle.mc_graph.proofs.GraphCommands.{told_more}
 use Rattle.mc_graph.proofs.TypedCommands.{measured_state, zero_is, zero_is_pattern}

@@ -1,39 +1,56 @@
-use Rattle.std.proofs.Common.{◌<◌, ◌≤◌, sym, ◌∙◌, refl, arith, length}
+use Rattle.std.proofs.Common.{◌≡◌, ◌+◌, ◌<◌, sym, ◌∙◌, refl, ap, arith, length, drop, true, false}
 use Rattle.std.specs.List.{prefix_len}
 use Rattle.mc_lex.specs.Bytes.{is_blank}
-use Rattle.mc_lex.proofs.Firsts.{tokens_some, tokens_none}
+use Rattle.mc_lex.specs.First.{starts_seen}
+use Rattle.mc_lex.specs.Lines.{lines_from}
+use Rattle.mc_lex.specs.Parts.{behind_feed}
+use Rattle.mc_lex.proofs.LinesInParts.{lines_first}
+use Rattle.mc_lex.proofs.Firsts.{tokens_some, tokens_none, behind_blanks, shorter_by}
 use Rattle.mc_lex.proofs.part.find_line.Goals as goal
 
-pub returns-then-blank_len-bytes-clause-found : goal.returns-then-blank_len-bytes-clause-found
-returns-then-blank_len-bytes-clause-found c =
-    let visible = c.first_line.result.0.now in
-    let n = c.loop-rest.line in
-    let lt : prefix_len is_blank visible < length visible =
-    rw (← c.blank_len.ensures.len) c.if-blank_len-bytes.true in
-    let some = tokens_some n 1 visible lt in
-    let lines = c.first_line.ensures.lines n in
-    let inv = c.loop-rest.invariant in
+pub returns-then-is_seen-clause-found : goal.returns-then-is_seen-clause-found
+returns-then-is_seen-clause-found c =
+    let text = c.lines.rest.now in
+    let n = c.lines.line in
+    let seen_there : starts_seen (drop (prefix_len is_blank text) text) ≡ true =
+    rw (← c.blank_len.ensures.len, ← c.split_at.ensures.back)
+    (sym c.is_seen.ensures ∙ c.if-is_seen.true) in
+    let some = tokens_some n text seen_there in
+    let inv = c.lines.invariant in
     record {
       item = some.0;
       items = some.1.0;
       start = refl;
       tokens_are = some.1.1;
-      lines_are = sym inv.same ∙ lines ∙ rw some.1.1 refl;
-      within = omega arith;
-      part_within = omega arith;
+      lines_are = sym inv.same ∙ lines_first n text ∙ rw some.1.1 refl;
+      within = inv.within;
+      some = grind arith;
+      shorter = inv.shorter;
     }
 
-pub loop-rest-preserved : goal.loop-rest-preserved
-loop-rest-preserved c =
-    let visible = c.first_line.result.0.now in
-    let n = c.loop-rest.line in
-    let le : length visible ≤ prefix_len is_blank visible =
-    rw (← c.blank_len.ensures.len) c.if-blank_len-bytes.false in
-    let none = tokens_none n 1 visible le in
-    let lines = c.first_line.ensures.lines n in
-    let inv = c.loop-rest.invariant in
+pub lines-preserved : goal.lines-preserved
+lines-preserved c =
+    let text = c.lines.rest.now in
+    let n = c.lines.line in
+    let later = c.behind_line-rest.result.now in
+    let unseen : starts_seen (drop (prefix_len is_blank text) text) ≡ false =
+    rw (← c.blank_len.ensures.len, ← c.split_at.ensures.back)
+    (sym c.is_seen.ensures ∙ c.if-is_seen.false) in
+    let none = tokens_none n text unseen in
+    let behind : later ≡ behind_feed text =
+    c.behind_line-rest.ensures.behind ∙ ap behind_feed c.split_at.ensures.back
+    ∙ ap (λ k. behind_feed (drop k text)) c.blank_len.ensures.len ∙ behind_blanks text in
+    let lines : lines_from n text ≡ lines_from (n + 1) later =
+    lines_first n text ∙ rw (none, behind) refl in
+    let back = c.split_at.ensures.back_len in
+    let some : 0 < length text = grind arith in
+    let less : length later < length text =
+    shorter_by (length later) (length c.split_at.result.1.now) (length text)
+    c.behind_line-rest.ensures.shorter c.behind_line-rest.ensures.within (omega arith)
+    (omega arith) in
+    let inv = c.lines.invariant in
     record {
       within = omega arith;
       shorter = omega arith;
-      same = sym (lines ∙ rw none refl) ∙ inv.same;
+      same = sym lines ∙ inv.same;
     }

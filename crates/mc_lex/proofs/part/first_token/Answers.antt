@@ -1,6 +1,6 @@
-use Rattle.std.proofs.Common.{◌∙◌, refl}
-use Rattle.mc_lex.proofs.Steps.{blanks-stop, tokens-blanks}
-use Rattle.mc_lex.proofs.Firsts.{none_later, some_later, first_later}
+use Rattle.std.proofs.Common.{refl}
+use Rattle.mc_lex.proofs.Steps.{blanks-stop}
+use Rattle.mc_lex.proofs.Firsts.{none_later, some_later, first_later, tokens-later}
 use Rattle.mc_lex.proofs.part.first_token.Goals as goal
 
 pub token_at-requires-clause-no_blank : goal.token_at-requires-clause-no_blank
@@ -9,10 +9,9 @@ token_at-requires-clause-no_blank c =
 
 pub returns-clause-none : goal.returns-clause-none
 returns-clause-none c =
-    let part = c.args.part in
-    let same = tokens-blanks part.line part.column part.bytes.now in
     none_later c.token_at.result
-    (λ e. same ∙ rw (← c.blank_len-blanks.ensures.len, ← c.split_at.ensures.back) e)
+    (tokens-later c.args.part c.blank_len-blanks.result c.blank_len-blanks.ensures.len _
+    c.split_at.ensures.back)
     c.token_at.ensures.none
 
 pub returns-clause-first : goal.returns-clause-first

@@ -10,4 +10,5 @@ abbrev pub invariant-vertices : goal.invariant-vertices
 invariant-vertices g l =
     map (plain_command {h = g.row.H}) l.commands.items
     ≡ map (plain_command {h = g.row.H}) l.initial.commands.items
-    ++ map (λ k. FixZ k (signal_of l.q)) (numbers_where (λ k. odd_neighbourhood l.g (is_member l.set) k && not (nat_eq k l.q)) l.v)
+    ++ map (λ k. FixZ k (signal_of l.q))
+    (numbers_where (λ k. odd_neighbourhood l.g (is_member l.set) k && not (nat_eq k l.q)) l.v)

@@ -1,15 +1,12 @@
 use Rattle.std.proofs.Common.{◌≡◌, ℕ, ◌*◌, ◌^◌, ◌<◌, [], ◌∷◌, ◌++◌, length, slice_index_or, sym}
 use Rattle.std.proofs.Common.{ap}
 use Rattle.std.proofs.Common.{◌∙◌, subst, arith}
-use Rattle.std.specs.Prelude.{All}
-use Rattle.mc_model.specs.Pattern.{measured_order}
-use Rattle.mc_model.specs.Bits.{bits_of}
 use Rattle.mc_model.specs.Ring.{ring}
-use Rattle.mc_model.specs.Amplitude.{placed, branch_map, pattern_scale}
+use Rattle.mc_model.specs.Amplitude.{branch_map, pattern_scale}
 use Rattle.mc_pattern.specs.Patterns.{measured_count}
-use Rattle.mc_run.specs.Settings.{spelled}
+use Rattle.mc_cyclo.specs.Phase.{IsLeastPhase}
 use Rattle.mc_run.specs.Tables.{TableValue, IsTableOf}
-use Rattle.mc_run.specs.Reports.{outcomes_of, IsLeastPhase}
+use Rattle.mc_run.specs.Reports.{outcomes_of}
 use Rattle.mc_run.proofs.Vectors.{length-more}
 use Rattle.mc_run.proofs.MeasuringOrder.{order_listed, order_long, each_next}
 use Rattle.mc_run.proofs.report.all_branches.Goals as goal

@@ -1,8 +1,8 @@
 use Rattle.std.proofs.Common.{◌≡◌, ℕ, ◌<◌, List, [], ◌∷◌, ◌++◌, length, slice_index_or, sym, ap}
 use Rattle.std.proofs.Common.{◌∙◌, subst, arith}
 use Rattle.std.specs.Prelude.{Option}
+use Rattle.mc_cyclo.specs.Phase.{IsLeastPhase}
 use Rattle.mc_run.specs.Tables.{TableValue}
-use Rattle.mc_run.specs.Reports.{IsLeastPhase}
 use Rattle.mc_run.proofs.Vectors.{length-more}
 use Rattle.mc_run.proofs.MeasuringOrder.{read_same, each_next}
 use Rattle.mc_run.proofs.report.phases_of.Goals as goal

@@ -1,7 +1,7 @@
 use Rattle.std.proofs.Common.{◌≡◌, ℕ, ◌<◌, length, slice_index_or}
 use Rattle.std.specs.Prelude.{Option}
+use Rattle.mc_cyclo.specs.Phase.{IsLeastPhase}
 use Rattle.mc_run.specs.Tables.{TableValue}
-use Rattle.mc_run.specs.Reports.{IsLeastPhase}
 use Rattle.mc_run.proofs.report.phases_of.Given as goal
 
 abbrev pub invariant-tables : goal.invariant-tables

@@ -1,4 +1,4 @@
-use Rattle.std.proofs.Common.{rules, ◌≡◌, ℕ, ◌+◌, ◌-◌, ◌*◌, ◌^◌, ◌<◌, ◌≤◌, true, false, ℤ}
+use Rattle.std.proofs.Common.{rules, ◌≡◌, ℕ, ◌+◌, ◌-◌, ◌^◌, ◌<◌, ◌≤◌, true, false, ℤ}
 use Rattle.std.proofs.Common.{List, []}
 use Rattle.std.proofs.Common.{◌∷◌, ◌++◌, length, map, take, drop, slice_set, sym, subst, ap, ◌∙◌}
 use Rattle.std.proofs.Common.{arith}
@@ -6,7 +6,7 @@ use Rattle.std.specs.Prelude.{All}
 use Rattle.std.proofs.lemmas.List.{length-map, length-set, map-append}
 use Rattle.mc_model.specs.Bits.{Bits, replaced, bits_of}
 use Rattle.mc_model.proofs.BitLemmas.{replaced_again}
-use Rattle.mc_model.specs.Pattern.{Command, Meas, measured_order}
+use Rattle.mc_model.specs.Pattern.{Command, measured_order}
 use Rattle.mc_model.specs.Valid.{prepared}
 use Rattle.mc_pattern.specs.Commands.{plain_command}
 use Rattle.mc_model.specs.Amplitude.{Amps, after}

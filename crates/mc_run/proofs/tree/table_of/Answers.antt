@@ -1,15 +1,13 @@
-use Rattle.std.proofs.Common.{rules, ◌≡◌, ℕ, ◌+◌, ◌*◌, ◌^◌, ◌<◌, List, ℤ, ◌++◌, length, map, sym}
+use Rattle.std.proofs.Common.{rules, ◌≡◌, ℕ, ◌+◌, ◌*◌, ◌^◌, ◌<◌, List, ℤ, length, sym}
 use Rattle.std.proofs.Common.{ap, ap₂, ◌≤◌, ◌∙◌, subst, arith}
-use Rattle.std.specs.Prelude.{All}
 use Rattle.mc_model.specs.Bits.{bits_of}
 use Rattle.mc_model.specs.Ring.{ring}
 use Rattle.mc_model.specs.Amplitude.{branch_map, halvings}
 use Rattle.mc_pattern.specs.Patterns.{measured_count}
 use Rattle.mc_run.specs.Reports.{outcomes_of}
 use Rattle.mc_run.proofs.AllColumns.{few_columns, column_within}
-use Rattle.mc_run.specs.Settings.{spelled, place_spelled}
+use Rattle.mc_run.specs.Settings.{spelled}
 use Rattle.mc_run.specs.Sources.{entry}
-use Rattle.mc_run.specs.Gates.{IsLiving}
 use Rattle.mc_run.proofs.CoefficientLists.{branch_entry}
 use Rattle.mc_run.proofs.FilledColumns.{Filled, map_same, filled_more}
 use Rattle.mc_run.proofs.CountsAlong.{listed_few}

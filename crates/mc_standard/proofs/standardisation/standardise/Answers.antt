@@ -25,7 +25,8 @@ invariant_of-result-2 g c =
     c.in_ok-fixes_of.field-0.items c.len-qubits.result _ c.commands.ensures
     c.in_ok-preps.ensures.whole
     (c.len-qubits.ensures.len ∙ ap length (c.in_ok-names.ensures ∙ c.names.ensures.names))
-    (rw c.as_slice.ensures.value at c.in_ok-edges_of.ensures) (rw (c.as_slice-2.ensures.value, c.as_slice-3.ensures.value) at c.in_ok-fixes_of.ensures))) in
+    (rw c.as_slice.ensures.value at c.in_ok-edges_of.ensures)
+    (rw (c.as_slice-2.ensures.value, c.as_slice-3.ensures.value) at c.in_ok-fixes_of.ensures))) in
     rw (
       c.names-2.view_is,
       c.in_ok-names.ensures,
@@ -53,7 +54,8 @@ returns-clause-form g c =
     c.in_ok-fixes_of.field-0.items c.len-qubits.result _ c.commands.ensures
     c.in_ok-preps.ensures.whole
     (c.len-qubits.ensures.len ∙ ap length (c.in_ok-names.ensures ∙ c.names.ensures.names))
-    (rw c.as_slice.ensures.value at c.in_ok-edges_of.ensures) (rw (c.as_slice-2.ensures.value, c.as_slice-3.ensures.value) at c.in_ok-fixes_of.ensures)))
+    (rw c.as_slice.ensures.value at c.in_ok-edges_of.ensures)
+    (rw (c.as_slice-2.ensures.value, c.as_slice-3.ensures.value) at c.in_ok-fixes_of.ensures)))
 
 pub returns-clause-alike : goal.returns-clause-alike
 returns-clause-alike g c = λ half positive o.

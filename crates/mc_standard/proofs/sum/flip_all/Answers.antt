@@ -1,6 +1,6 @@
 use Rattle.std.proofs.Common.{arith, ◌≤◌, length}
 use Rattle.mc_bits.specs.Words.{word_bit}
-use Rattle.mc_standard.proofs.SumBits.{flipped_more, flipped_all}
+use Rattle.mc_signal.proofs.Members.{flipped_more, flipped_all}
 use Rattle.mc_standard.proofs.sum.flip_all.Goals as goal
 
 pub members-preserved : goal.members-preserved

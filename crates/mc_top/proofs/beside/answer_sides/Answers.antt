@@ -1,4 +1,3 @@
-use Rattle.std.proofs.Common.{◌≡◌, ℕ}
 use Rattle.mc_model.specs.Pattern.{Pattern}
 use Rattle.mc_model.proofs.StepLemmas.{permitted_positive}
 use Rattle.mc_compose.specs.Composed.{side_by_side}

@@ -2,7 +2,6 @@ use Rattle.std.proofs.Common.{inl, inr, refl, arith}
 use Rattle.mc_model.specs.Made.{extracted_circuit}
 use Rattle.mc_circuit.specs.Canonical.{circuit_text}
 use Rattle.mc_graph.specs.Flows.{layer_in, next_in}
-use Rattle.mc_extract.specs.Answers.{IsAnswer}
 use Rattle.mc_top.specs.Extract.{IsExtractionDue, IsStuckDue}
 use Rattle.mc_top.proofs.Compilations.{gives_text}
 use Rattle.mc_top.proofs.Findings.{gives_too}

@@ -2,7 +2,6 @@ use Rattle.std.proofs.Common.{inl, inr, refl}
 use Rattle.mc_model.specs.Made.{flow_pattern}
 use Rattle.mc_pattern_text.specs.Canonical.{pattern_text}
 use Rattle.mc_graph.specs.Flows.{layer_in, sets_in}
-use Rattle.mc_gflow.specs.Answers.{IsChosen}
 use Rattle.mc_top.specs.Flow.{IsRefuterDue}
 use Rattle.mc_top.specs.Make.{IsMakingDue}
 use Rattle.mc_top.proofs.Compilations.{gives_text}

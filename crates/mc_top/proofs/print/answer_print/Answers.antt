@@ -1,5 +1,5 @@
 use Rattle.mc_document.specs.Documents.{plain_document}
-use Rattle.mc_document.specs.Kinds.{every_kind}
+use Rattle.mc_document.specs.Documents.{every_kind}
 use Rattle.mc_top.proofs.ShiftedForms.{on_ok}
 use Rattle.mc_top.proofs.print.answer_print.Goals as goal
 

@@ -1,4 +1,3 @@
-use Rattle.std.proofs.Common.{subst}
 use Rattle.mc_model.specs.Amplitude.{branch_map, pattern_scale}
 use Rattle.mc_model.specs.Ring.{ring}
 use Rattle.mc_run.specs.Limits.{all_limit}

@@ -1,4 +1,4 @@
-use Rattle.mc_top.proofs.SampleNumbers.{sum_more}
+use Rattle.mc_top.proofs.ByteSums.{sum_more}
 use Rattle.mc_top.proofs.sample.sum_of.Goals as goal
 
 pub bytes-preserved : goal.bytes-preserved

@@ -1,8 +1,8 @@
-use Rattle.std.proofs.Common.{◌≡◌, Err, None, subst}
+use Rattle.std.proofs.Common.{◌≡◌, None, subst}
 use Rattle.mc_text.specs.Stops.{IsEnd}
 use Rattle.mc_document.specs.declared.takes.Takes.{Takes}
 use Rattle.mc_document.specs.Documents.{plain_document}
-use Rattle.mc_document.specs.Kinds.{IsTaken}
+use Rattle.mc_document.specs.Documents.{IsTaken}
 use Rattle.mc_document.specs.Sections.{first_in_text}
 use Rattle.mc_top.specs.Commands.{command_of, plain_task}
 use Rattle.mc_top.proofs.Serving.{answered_due, answered_means, end_gives}

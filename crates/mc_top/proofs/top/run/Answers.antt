@@ -1,5 +1,5 @@
-use Rattle.std.proofs.Common.{◌≡◌, ◌<◌, ◌≤◌, List, length, Err, Ok, refl, inl, inr}
-use Rattle.std.proofs.Common.{sym, subst, ap, ◌∙◌, ℕ}
+use Rattle.std.proofs.Common.{List, Err, Ok, refl, inl, inr}
+use Rattle.std.proofs.Common.{subst, ap, ◌∙◌, ℕ}
 use Rattle.std.proofs.Common.{arith}
 use Rattle.mc_lex.specs.declared.end.TextEnd.TheVariants as end
 use Rattle.mc_document.specs.Turns.{half_of}

@@ -6,4 +6,5 @@ pub returns : goal.returns
 returns c =
     let b = c.self.inside in
     c.contains_key.ensures
-    ∙ set_kept b.depth b.layers.entries b.sets.entries c.args.self.now c.self.view_is (record { k = c.args.k; vertex = c.args.vertex })
+    ∙ set_kept b.depth b.layers.entries b.sets.entries c.args.self.now c.self.view_is
+    (record { k = c.args.k; vertex = c.args.vertex })

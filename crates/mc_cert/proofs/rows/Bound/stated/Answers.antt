@@ -1,4 +1,4 @@
-use Rattle.std.proofs.Common.{◌∙◌, ap, sym, refl, ℕ}
+use Rattle.std.proofs.Common.{◌∙◌, ap, sym, ℕ}
 use Rattle.std.specs.Prelude.{Option, unwrap_or}
 use Rattle.mc_cert.specs.BoundRules.{stated_in}
 use Rattle.mc_cert.proofs.KeptRows.{kept_layer}

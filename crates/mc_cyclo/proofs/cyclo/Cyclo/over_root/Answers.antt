@@ -25,7 +25,7 @@ halve-requires-clause-low g c =
       ap height c.add_to.ensures,
       ap height c.turn.ensures,
       ap height c.turn-2.ensures,
-      height-plus c.turn.new.coordinates c.turn-2.new.coordinates,
+      height-plus c.turn.new.turned c.turn-2.new.turned,
       height-rotations (g.row.H / 4) a,
       height-rotations (7 * (g.row.H / 4)) a,
       c.self.invariant.in_range,

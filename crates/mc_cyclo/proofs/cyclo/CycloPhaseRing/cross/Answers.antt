@@ -1,6 +1,5 @@
-use Rattle.std.proofs.Common.{arith, rules, ℕ, ◌≡◌, ◌+◌, ◌/◌, ◌%◌, ◌^◌, ◌<◌, ◌≤◌, ◌∙◌}
+use Rattle.std.proofs.Common.{arith, rules, ℕ, ◌≡◌, ◌/◌, ◌%◌, ◌∙◌}
 use Rattle.std.proofs.Common.{sym, ap, ap₂}
-use Rattle.std.proofs.Common.{length, List, ℤ}
 use Rattle.mc_model.specs.Ring.{plus, minus, rotations, length-minus}
 use Rattle.mc_model.proofs.RingLemmas.{length-rotations}
 use Rattle.mc_model.proofs.RootTwo.{minus_minus}

@@ -3,7 +3,7 @@ use Rattle.mc_pattern.specs.Commands.{plain_command}
 use Rattle.mc_standard.specs.declared.change.Change.TheVariants as change
 use Rattle.mc_standard.specs.Changes.{changed}
 use Rattle.mc_standard.proofs.Edits.{exchanged_at, merged_at, cancelled_at, put_at, removed_at}
-use Rattle.mc_standard.proofs.apply.apply.Goals as goal
+use Rattle.mc_standard.proofs.change.Change.apply.Goals as goal
 
 pub returns-in-Exchange-clause-ok : goal.returns-in-Exchange-clause-ok
 returns-in-Exchange-clause-ok g c =
