@@ -4,7 +4,7 @@ use Rattle.std.proofs.lemmas.Bool.{false_from_ne_true}
 use Rattle.std.proofs.lemmas.List.Sums.{position_or_len_is}
 use Rattle.memchr.specs.Find.{IsFirstByte, is_byte}
 use Rattle.mc_lex.specs.Bytes.{is_feed}
-use Rattle.mc_lex.proofs.bytes.line_len.Goals as goal
+use Rattle.mc_lex.proofs.bytes.far_line_len.Goals as goal
 
 -- the first line feed is where the line ends
 first_feed : (bytes : List ℕ) (r : Option ℕ) → IsFirstByte (is_byte 10) bytes r
