@@ -31,7 +31,7 @@ use Rattle.mc_text.proofs.Written.{is_written, is_written_line}
 use Rattle.mc_wires.specs.Kinds.{Kind, is_defining, is_input, is_output, is_gate, gate_lines}
 use Rattle.mc_wires.specs.Kinds.{goes_on, may_follow}
 use Rattle.mc_wires.specs.Judge.{judge_word, wire_rules}
-use Rattle.mc_wires.specs.Canonical.{plus_lines, first_lines, last_lines, wire_lines, behind_header}
+use Rattle.mc_wires.specs.Canonical.{plus_lines, last_lines, wire_lines, behind_header}
 use Rattle.mc_wires.proofs.Lines.{gate_other, gate_lines-line}
 use Rattle.mc_wires.proofs.Words.{new_at, new_ends, listed_at, listed_ends, gate_at, gate_ends}
 use Rattle.mc_wires.proofs.Words.{same_line}

@@ -20,7 +20,7 @@ use Rattle.mc_text.specs.declared.fault.Fault.TheVariants.{OutputsLack}
 use Rattle.mc_text.specs.Heads.{head_of, head_in}
 use Rattle.mc_text.specs.Points.{last_head}
 use Rattle.mc_text.specs.Judged.{Words, Lines, Place, first_in_section, section_lines}
-use Rattle.mc_text.specs.Rules.{number_in, AreNumbers}
+use Rattle.mc_text.specs.Rules.{number_in}
 use Rattle.mc_text.specs.Lists.{names_at}
 use Rattle.mc_text.proofs.Behind.{GoesOn, behind_clean}
 use Rattle.mc_text.proofs.Clean.{CleanWords}

@@ -1,6 +1,6 @@
 -- What is judged with the words of a line, by its record word.
 use Rattle.std.proofs.Common.{◌≡◌, ℕ, List, [], ◌∷◌, ◌++◌, Bool, true, false, not, ◌&&◌, Option, Some}
-use Rattle.std.proofs.Common.{None, length, refl, ap, ◌∙◌, nat_le, if◌then◌else◌}
+use Rattle.std.proofs.Common.{None, refl, ap, ◌∙◌, nat_le, if◌then◌else◌}
 use Rattle.std.specs.List.{list_all}
 use Rattle.std.proofs.lemmas.List.{append-nil}
 use Rattle.mc_model.specs.Names.{Name, is_held}
@@ -8,7 +8,7 @@ use Rattle.mc_text.specs.declared.head.Head.{Head}
 use Rattle.mc_text.specs.declared.head.Head.TheVariants.{In, Plus, Out}
 use Rattle.mc_text.specs.declared.fault.Fault.TheVariants.{NotFixed, OutputsLack}
 use Rattle.mc_text.specs.Heads.{head_of, head_in}
-use Rattle.mc_text.specs.Judged.{Judgement, Words, Lines}
+use Rattle.mc_text.specs.Judged.{Words, Lines}
 use Rattle.mc_text.specs.Rules.{broken, new_name, listed_name}
 use Rattle.mc_text.specs.Lists.{names_at}
 use Rattle.mc_text.proofs.Kept.{names_at-line}

@@ -5,7 +5,7 @@ use Rattle.mc_model.specs.Names.{Name, place_of}
 use Rattle.mc_text.specs.declared.head.Head.{Head}
 use Rattle.mc_text.specs.declared.fault.Stop.{Stop}
 use Rattle.mc_text.specs.declared.point.Point.{Point}
-use Rattle.mc_text.specs.Heads.{head_of, head_in}
+use Rattle.mc_text.specs.Heads.{head_in}
 use Rattle.mc_text.specs.Judged.{Words, Lines}
 use Rattle.mc_text.specs.Rules.{AreNumbers}
 use Rattle.mc_text.specs.Lists.{names_at, begun}
