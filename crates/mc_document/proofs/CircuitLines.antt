@@ -31,7 +31,7 @@ use Rattle.mc_circuit.specs.Kept.{opens, is_closed}
 use Rattle.mc_circuit.proofs.Keeping.{closed_head, behind_closed, distinct_more}
 use Rattle.mc_circuit.proofs.KeepingLine.{last_head-more}
 use Rattle.mc_graph_text.proofs.Grown.{new_free, all_more, held-more}
-use Rattle.mc_graph_text.proofs.CleanSections.{GoesOn}
+use Rattle.mc_text.proofs.GoesOn.{GoesOn}
 
 -- the operands of a gate are wires, and the two of a CZ differ
 abbrev pub is_good : List Name → Spelled → Bool

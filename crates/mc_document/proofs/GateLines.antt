@@ -25,7 +25,7 @@ use Rattle.mc_gates_text.proofs.Keeping.{closed_head, behind_closed, distinct_mo
 use Rattle.mc_gates_text.proofs.Keeping.{operand_clean, apart_more}
 use Rattle.mc_gates_text.proofs.KeepingLine.{last_head-more}
 use Rattle.mc_graph_text.proofs.Grown.{all_more, held-more}
-use Rattle.mc_graph_text.proofs.CleanSections.{GoesOn}
+use Rattle.mc_text.proofs.GoesOn.{GoesOn}
 use Rattle.mc_document.proofs.CircuitLines.{names_push, known_held, listed_held, defining_cases}
 use Rattle.mc_document.proofs.CircuitLines.{inputs_more, output_head, no_names}
 

@@ -14,8 +14,6 @@ pub mod Taken
 pub mod Turns
 pub mod CircuitLines
 pub mod SoundCircuits
-pub mod RowLines
-pub mod SoundChanges
 pub mod SoundCerts
 pub mod SoundTraces
 pub mod GateLines

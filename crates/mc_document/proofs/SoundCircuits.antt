@@ -27,8 +27,8 @@ use Rattle.mc_circuit.specs.Judge.{circuit_rules}
 use Rattle.mc_circuit.specs.Roles.{is_defining, is_output}
 use Rattle.mc_circuit.specs.Value.{Spelled, spelled_j, spelled_cz, spelled_gates, gate_by}
 use Rattle.mc_circuit.specs.Value.{circuit_of}
-use Rattle.mc_graph_text.proofs.CleanSections.{behind_clean}
-use Rattle.mc_graph_text.proofs.NameReads.{name_eq-same, place-below}
+use Rattle.mc_text.proofs.GoesOn.{behind_clean}
+use Rattle.mc_text.proofs.Members.{name_eq-same, place-below}
 use Rattle.mc_document.proofs.CircuitLines.{is_good, IsWhole, goes_on, whole_start}
 
 -- angles are less than a turn

@@ -20,7 +20,7 @@ use Rattle.mc_gates_text.specs.Value.{op_in, gate_list_of}
 use Rattle.mc_gates_text.specs.Judge.{gates_rules}
 use Rattle.mc_gates_text.proofs.Distinct.{numbers_under, numbers_distinct}
 use Rattle.mc_gates_text.proofs.Tables.{no_op, op_fits}
-use Rattle.mc_graph_text.proofs.CleanSections.{behind_clean}
+use Rattle.mc_text.proofs.GoesOn.{behind_clean}
 use Rattle.mc_document.proofs.GateLines.{IsGood, IsWhole, goes_on, whole_start}
 use Rattle.mc_document.proofs.SoundCircuits.{outputs_once}
 

@@ -30,12 +30,13 @@ use Rattle.mc_graph_text.specs.Kept.{graph_so_far, IsSound, IsFirst, IsUnlisted,
 use Rattle.mc_graph_text.specs.Kept.{is_keeping}
 use Rattle.mc_graph_text.proofs.Pairs.{spelled_with, spelled-word, spelled-line}
 use Rattle.mc_graph_text.proofs.Heads.{last_head-more, measuring_head}
-use Rattle.mc_graph_text.proofs.NameReads.{place-below, angled_at}
+use Rattle.mc_text.proofs.Members.{place-below}
+use Rattle.mc_graph_text.proofs.NameReads.{angled_at}
 use Rattle.mc_graph_text.proofs.Grown.{new_free, still_is, output_is, all_more, held-more}
 use Rattle.mc_graph_text.proofs.Stepping.{CanGrow, grows}
 use Rattle.mc_graph_text.proofs.KeepingWord.{first_there, nothing_listed, order_more, complete_more}
 use Rattle.mc_graph_text.proofs.KeepingLine.{unlisted_line, complete_line}
-use Rattle.mc_graph_text.proofs.CleanSections.{GoesOn}
+use Rattle.mc_text.proofs.GoesOn.{GoesOn}
 
 pub record IsWhole (fixes : Bool) (before : Lines) (here : Words) : Type 0 where
   pub sound : IsSound (spelled_at before here)

@@ -1,10 +1,13 @@
 -- Nothing is against a pattern's canonical text.
 use Rattle.std.proofs.Common.{◌≡◌, ℕ, zero, suc, ◌+◌, ◌<◌, ◌≤◌, Bool, true, false, not, ◌||◌, All}
 use Rattle.std.proofs.Common.{List, [], ◌∷◌, ◌++◌, length, map, take, drop, codes, refl, sym, ap}
-use Rattle.std.proofs.Common.{◌∙◌, append_assoc, length-append, arith, eq-eqb, ne_eqb, nat_eq}
-use Rattle.std.proofs.Common.{nat_le, Option, Some, IsTrue, if◌then◌else◌, cond, count_by, get_or}
+use Rattle.std.proofs.Common.{◌∙◌, append_assoc, length-append, arith, eq-eqb, nat_eq}
+use Rattle.std.proofs.Common.{nat_le, Option, Some, IsTrue, cond, count_by, get_or}
+use Rattle.std.specs.Option.{unwrap_or}
+use Rattle.std.proofs.Math.Seq.{take-length}
+use Rattle.std.proofs.lemmas.Option.{slice_get-get_or}
 use Rattle.std.specs.List.{filter_map, flat_map, list_all, list_any, IsDistinct}
-use Rattle.std.proofs.lemmas.Bool.{cases_Bool}
+use Rattle.std.proofs.lemmas.Bool.{and_parts, cases_Bool, or_left, or_right}
 use Rattle.std.proofs.lemmas.Bool.Decides.{nat_tests}
 use Rattle.std.proofs.lemmas.List.{append-nil, map-append, length-take-le, take-append-drop}
 use Rattle.std.proofs.lemmas.List.Elements.{filter_map-append}
@@ -23,15 +26,13 @@ use Rattle.mc_pattern.proofs.Members.{below_by, counts_member, member_counts}
 use Rattle.mc_write.specs.Named.{name_at}
 use Rattle.mc_text.specs.declared.head.Head.{Head}
 use Rattle.mc_text.specs.declared.head.Head.TheVariants.{Out}
-use Rattle.mc_text.specs.Heads.{head_of, head_in, is_end}
-use Rattle.mc_text.specs.Points.{point_of}
+use Rattle.mc_text.specs.Heads.{head_in, is_end}
 use Rattle.mc_text.specs.Judged.{Words, Lines}
 use Rattle.mc_text.specs.Lists.{names_in, names_at, operand_at}
-use Rattle.mc_text.proofs.Going.{head_at}
-use Rattle.mc_text.proofs.Kept.{count_some, names_at-line}
+use Rattle.mc_text.proofs.Kept.{names_at-line}
 use Rattle.mc_text.proofs.Clean.{CleanWords, Clean, last, more}
 use Rattle.mc_text.proofs.Naming.{distinct_front}
-use Rattle.mc_pattern_text.specs.Roles.{may_follow, role_of, role_in, follows_command, is_defining}
+use Rattle.mc_pattern_text.specs.Roles.{may_follow, follows_command, is_defining}
 use Rattle.mc_pattern_text.specs.Roles.{is_measuring, is_output}
 use Rattle.mc_pattern_text.specs.Value.{spelled_command, spelled_commands}
 use Rattle.mc_pattern_text.specs.Judge.{measured_in, is_settled, rules_with, pattern_rules}
@@ -40,8 +41,9 @@ use Rattle.mc_pattern_text.specs.Canonical.{pattern_version, command_line, patte
 use Rattle.mc_pattern_text.proofs.NamedCommands.{measured_there}
 use Rattle.mc_pattern_text.proofs.CleanCommands.{IsAfter, AreThere, front_distinct, front_more}
 use Rattle.mc_pattern_text.proofs.CleanCommands.{known_clean, measured_held, held_written}
-use Rattle.mc_pattern_text.proofs.CleanLines.{command_clean, or_first}
-use Rattle.mc_pattern_text.proofs.Parts.{all_front, and_both, or_right, last_head-line}
+use Rattle.mc_pattern_text.proofs.CleanLines.{command_clean}
+use Rattle.mc_rows.proofs.Lines.{all_front}
+use Rattle.mc_pattern_text.proofs.Parts.{last_head-line, role_at, names_here}
 
 -- the lines of one command more
 after_by : (ns : List Name) (inputs : ℕ) (before : Lines) (done : List Command) (c : Command)
@@ -148,7 +150,7 @@ commands_clean constants half ns inputs before done (c ∷ cs) tail h names perm
     } in
     more before (command_line ns c) (map (command_line ns) cs ++ tail)
     (command_clean constants half ns inputs before done c there permitted here room fits typed.0
-    (λ e. permits (or_first (has_constant c) (list_any has_constant cs) e)))
+    (λ e. permits (or_left (has_constant c) (list_any has_constant cs) e)))
     (no_end ns c)
     (commands_clean constants half ns inputs (before ++ command_line ns c ∷ []) (done ++ c ∷ []) cs
     tail (command_after ns inputs before done c h fits here) names permitted (rw next valid)
@@ -157,32 +159,12 @@ commands_clean constants half ns inputs before done (c ∷ cs) tail h names perm
     (λ before' after. rest before' (rw next at after)))
 
 -- the inputs
-pub role_at : (before : Lines) (h : List ℕ) (list : Words)
-    → role_of (point_of before (h ∷ list))
-    ≡ role_in (head_of h) (point_of before (h ∷ list)).count (point_of before (h ∷ list)).mark
-role_at before h list =
-    rw (
-      ne_eqb (point_of before (h ∷ list)).count 0 (count_some before h list),
-      head_at before
-          (h ∷ list),
-    ) refl
-
-pub names_here : (test : Option Head → Bool) (before : Lines) (h : List ℕ) (ws : Words)
-    → names_at test before (h ∷ ws)
-    ≡ names_at test before [] ++ (if test (head_of h) then ws else [])
-names_here test before h ws = rw (append-nil (flat_map (names_in test) before)) refl
-
-pub names_stay : (test : Option Head → Bool) (before : Lines) (h : List ℕ) (words : Words)
-    → test (head_of h) ≡ false → names_at test before (h ∷ words) ≡ names_at test before []
-names_stay test before h words e =
-    names_here test before h words ∙ rw e (append-nil (names_at test before []))
-
 inputs_clean : (constants : Bool) (ws ps : List Name) → list_all is_name ps ≡ true
     → IsDistinct name_eq (ws ++ ps) → length (ws ++ ps) ≤ 256
     → CleanWords (rules_with constants) [] (codes "in" ∷ ws) ps
 inputs_clean constants ws [] named distinct few = rw (role_at [] (codes "in") ws) refl
 inputs_clean constants ws (p ∷ ps) named distinct few =
-    let both = and_both (is_name p) (list_all is_name ps) named in
+    let both = and_parts (is_name p) (list_all is_name ps) named in
     let free = distinct_front ws p ps distinct in
     let long = length-append ws (p ∷ ps) in
     let room : nat_le 256 (length ws) ≡ false = late (length ws) (omega (arith, long, few)) in
@@ -243,11 +225,12 @@ outputs_clean : (constants : Bool) (ns : List Name) (inputs : ℕ) (before : Lin
     (map (name_at ns) qs)
 outputs_clean constants ns inputs before done listed [] h whole due =
     let list = map (name_at ns) listed in
-    let all : take (inputs + prepared done) ns ≡ ns = rw whole (take_whole ns) in
+    let all : take (inputs + prepared done) ns ≡ ns = rw whole (take-length ns) in
     let due' = rw (append-nil listed) at due in
     let each : list_all (is_settled (measured_in before) list) ns ≡ true =
     list_all-from_AllPass (is_settled (measured_in before) list) ns (λ q d lt.
-    let here : get_or ns q d ≡ name_at ns q = at_default ns q d lt in
+    let here : get_or ns q d ≡ name_at ns q =
+    sym (ap (λ (name : Option Name). unwrap_or name []) (slice_get-get_or ns q d lt)) in
     let held = measured_held ns inputs before done q h (omega (arith, whole, lt)) in
     let out = held_written ns listed q h.names.distinct due'.below lt in
     rw (here, held, out) (settled_by (measured done q) (is_member listed q) (λ live.
@@ -264,15 +247,6 @@ outputs_clean constants ns inputs before done listed [] h whole due =
       all,
       each,
     ) refl
-  where
-    take_whole : (xs : List Name) → take (length xs) xs ≡ xs
-    take_whole [] = refl
-    take_whole (x ∷ xs) = ap (λ (ys : List Name). x ∷ ys) (take_whole xs)
-
-    at_default : (xs : List Name) (q : ℕ) (d : Name) → q < length xs → get_or xs q d ≡ name_at xs q
-    at_default [] q d lt = absurd (omega arith)
-    at_default (x ∷ xs) zero d lt = refl
-    at_default (x ∷ xs) (suc q) d lt = at_default xs q d (omega arith)
 outputs_clean constants ns inputs before done listed (q ∷ qs) h whole due =
     let list = map (name_at ns) listed in
     let lt : q < length ns = below_by (length ns) (listed ++ q ∷ qs) q due.below
@@ -308,7 +282,7 @@ all_named : (m : ℕ) (ns : List Name) → list_all is_name ns ≡ true
 all_named zero ns all = refl
 all_named (suc m) [] all = refl
 all_named (suc m) (n ∷ ns) all =
-    let both = and_both (is_name n) (list_all is_name ns) all in
+    let both = and_parts (is_name n) (list_all is_name ns) all in
     rw (both.0, all_named m ns both.1) refl
 
 pub inputs_after : (ns : List Name) (inputs : ℕ)

@@ -1,71 +1,74 @@
 -- Terms with nothing against them: measured qubits, and constants where those may stand.
-use Rattle.std.proofs.Common.{◌≡◌, ℕ, Bool, true, false, ◌&&◌, List, [], ◌∷◌, ◌++◌}
+use Rattle.std.proofs.Common.{◌≡◌, ℕ, Bool, true, false, not, ◌&&◌, List, [], ◌∷◌, ◌++◌}
 use Rattle.std.proofs.Common.{Option, Some, None, length, map, refl, sym, ap, ◌∙◌, nat_eq, nat_lt}
-use Rattle.std.proofs.Common.{if◌then◌else◌, inl, inr, lt-ltb}
+use Rattle.std.proofs.Common.{if◌then◌else◌, inl, inr, ap₂, subst, ◌==◌}
 use Rattle.std.specs.List.{list_all, list_any}
-use Rattle.std.proofs.lemmas.Bool.{eqb-true}
+use Rattle.std.proofs.lemmas.Bool.{and_parts, eqb-true, or_cases}
+use Rattle.std.proofs.lemmas.List.Folds.{list_all-append}
 use Rattle.mc_model.specs.Bits.{Bits}
 use Rattle.mc_model.specs.Signals.{Signal}
 use Rattle.mc_pattern.specs.Rules.{is_undone}
 use Rattle.mc_pattern.proofs.Members.{none_by}
 use Rattle.mc_model.specs.Numbers.{is_member}
-use Rattle.mc_model.specs.Names.{is_name, is_held}
+use Rattle.mc_model.specs.Names.{is_held}
 use Rattle.mc_text.specs.declared.head.Head.{Head}
 use Rattle.mc_text.specs.declared.point.Mark.{Mark}
 use Rattle.mc_text.specs.declared.point.Mark.TheVariants.{S, T, Colon}
-use Rattle.mc_text.specs.Points.{mark_of}
-use Rattle.mc_text.specs.Judged.{Words}
-use Rattle.mc_text.specs.Rules.{number_in}
+use Rattle.mc_text.specs.declared.head.Head.TheVariants as head
+use Rattle.mc_text.specs.declared.point.Point.{Point}
+use Rattle.mc_text.specs.Heads.{head_of}
+use Rattle.mc_text.specs.Points.{mark_of, first_point, next_point, point_of, last_head}
+use Rattle.mc_text.specs.Judged.{Words, Lines}
+use Rattle.mc_text.specs.Lists.{names_at}
+use Rattle.mc_text.specs.Places.{words_by}
+use Rattle.mc_text.proofs.Clean.{CleanWords}
+use Rattle.mc_text.proofs.Going.{point_of-more}
+use Rattle.mc_text.proofs.Places.{words_by-last}
+use Rattle.mc_text.specs.declared.fault.Fault.TheVariants.{NotMeasured}
+use Rattle.mc_text.specs.Rules.{number_in, broken, listed_name}
+use Rattle.mc_text.proofs.Unbroken.{holds_by, listed_is, next_none}
 use Rattle.mc_text.proofs.Numbers.{place-held}
-use Rattle.mc_pattern_text.specs.Roles.{role_behind}
-use Rattle.mc_pattern_text.specs.Value.{word_under, is_constant, names_among, signal_in}
-use Rattle.mc_pattern_text.specs.Judge.{Known, member_name, term_word, judge_by}
-use Rattle.mc_pattern_text.specs.Kept.{AreMarked, IsSpelled}
-use Rattle.mc_pattern_text.proofs.Parts.{and_both, or_either}
+use Rattle.mc_rows.specs.Rows.{is_one, has_one, named}
+use Rattle.mc_rows.proofs.RisingSets.{member_where}
+use Rattle.mc_rows.proofs.Sets.{name_no_one}
+use Rattle.mc_pattern_text.specs.Roles.{role_of, role_behind, is_defining}
+use Rattle.mc_pattern_text.specs.Value.{is_first, is_second, word_under, signal_in, added_first}
+use Rattle.mc_pattern_text.specs.Value.{added_second, first_signal, second_signal}
+use Rattle.mc_pattern_text.specs.Judge.{Known, known_at, measured_in, member_name, term_word}
+use Rattle.mc_pattern_text.specs.Judge.{judge_by, rules_with}
+use Rattle.mc_pattern_text.specs.Kept.{AreMarked}
+use Rattle.mc_pattern_text.proofs.Parts.{names_stay}
 use Rattle.mc_pattern_text.proofs.Marked.{marked-name}
-use Rattle.mc_pattern_text.proofs.RisingSets.{member_where, rising_where}
-use Rattle.mc_pattern_text.proofs.Sets.{numbers_below, signal_same}
-use Rattle.mc_pattern_text.proofs.Terms.{name_no_constant}
 use Rattle.mc_pattern_text.proofs.Under.{under_none}
 
 abbrev pub is_good : Bool → List (List ℕ) → List (List ℕ) → List ℕ → Bool
 is_good constants names measured word =
-    if is_constant word then constants else (is_held names word && is_held measured word)
+    if is_one word then constants else (is_held names word && is_held measured word)
 
 abbrev pub AreGood : Bool → List (List ℕ) → List (List ℕ) → Words → Type 0
 AreGood constants names measured words = list_all (is_good constants names measured) words ≡ true
 
 member_good : (constants : Bool) (names measured : List (List ℕ)) (signal : Words) (word : List ℕ)
-    (n h m : Bool) → is_name word ≡ n → is_held names word ≡ h → is_held measured word ≡ m
     → member_name names measured signal word ≡ None
     → is_good constants names measured word ≡ true
-member_good constants names measured signal word false h m e f g clean =
-    let clean' = rw e at clean in absurd (cc clean')
-member_good constants names measured signal word true false m e f g clean =
-    let clean' = rw (e, f) at clean in absurd (cc clean')
-member_good constants names measured signal word true true false e f g clean =
-    by_listed (is_held signal word) refl
-  where
-    by_listed : (l : Bool) → is_held signal word ≡ l → is_good constants names measured word ≡ true
-    by_listed true d = let clean' = rw (e, f, d) at clean in absurd (cc clean')
-    by_listed false d = let clean' = rw (e, f, d, g) at clean in absurd (cc clean')
-member_good constants names measured signal word true true true e f g clean =
-    rw (name_no_constant word e, f, g) refl
+member_good constants names measured signal word clean =
+    let late = (not (is_held measured word), NotMeasured) ∷ [] in
+    let both = next_none (listed_name names (named signal) word) (broken late) clean in
+    let listed = listed_is names (named signal) word both.0 in
+    let early = (holds_by (is_held measured word) NotMeasured [] both.1).0 in
+    rw (name_no_one word listed.0, listed.1, early) refl
 
-pub term_good : (constants : Bool) (names measured : List (List ℕ)) (signal : Words)
+term_good : (constants : Bool) (names measured : List (List ℕ)) (signal : Words)
     (word : List ℕ) → term_word constants names measured signal word ≡ None
     → is_good constants names measured word ≡ true
 term_good constants names measured signal word clean =
-    by_tests constants (is_constant word) refl refl
+    by_tests constants (is_one word) refl refl
   where
-    by_member : (constants && is_constant word) ≡ false
+    by_member : (constants && is_one word) ≡ false
         → is_good constants names measured word ≡ true
-    by_member e =
-        let clean' : member_name names measured signal word ≡ None = rw e at clean in
-        member_good constants names measured signal word (is_name word) (is_held names word)
-        (is_held measured word) refl refl refl clean'
+    by_member e = member_good constants names measured signal word (rw e at clean)
 
-    by_tests : (c t : Bool) → constants ≡ c → is_constant word ≡ t
+    by_tests : (c t : Bool) → constants ≡ c → is_one word ≡ t
         → is_good constants names measured word ≡ true
     by_tests true true e f = rw (f, e) refl
     by_tests true false e f = by_member (rw (e, f) refl)
@@ -82,7 +85,7 @@ under_good test mark p word None e good = by_test (test mark) refl
     by_test true f = rw (e, f, good refl) refl
     by_test false f = rw (e, f) refl
 
-pub behind_good : (constants : Bool) (test : Option Mark → Bool) (k : Known) (last : Option Head)
+behind_good : (constants : Bool) (test : Option Mark → Bool) (k : Known) (last : Option Head)
     (mark : Option Mark) (word : List ℕ) → test None ≡ false → test (Some Colon) ≡ false
     → judge_by constants k last (role_behind mark) word ≡ None
     → AreGood constants k.names k.measured (word_under test mark word)
@@ -98,46 +101,141 @@ behind_good constants test k last (Some T) word none colon clean =
     (λ e. term_good constants k.names k.measured k.signal word clean)
 behind_good constants test k last (Some Colon) word none colon clean = absurd (cc clean)
 
+-- the words that a word adds to the signals of its line
+first_good : (constants : Bool) (k : Known) (last : Option Head) (p : Point) (w : List ℕ)
+    → judge_by constants k last (role_of p) w ≡ None
+    → AreGood constants k.names k.measured (added_first p w)
+first_good constants k last p w clean =
+    by_tests (p.count == 0) (p.count == 1) (p.count == 2) p.head refl refl refl refl
+  where
+    by_tests : (a b c : Bool) (hd : Option Head) → (p.count == 0) ≡ a → (p.count == 1) ≡ b
+        → (p.count == 2) ≡ c → p.head ≡ hd
+        → AreGood constants k.names k.measured (added_first p w)
+    by_tests true b c hd e f g i = rw e refl
+    by_tests false true c hd e f g i = rw (e, f) refl
+    by_tests false false c (Some head.X) e f g i =
+        let clean' : term_word constants k.names k.measured k.signal w ≡ None =
+        rw (e, i, f) at clean in
+        rw (e, f, i)
+        (ap (λ (b : Bool). b && true) (term_good constants k.names k.measured k.signal w clean'))
+    by_tests false false c (Some head.Z) e f g i =
+        let clean' : term_word constants k.names k.measured k.signal w ≡ None =
+        rw (e, i, f) at clean in
+        rw (e, f, i)
+        (ap (λ (b : Bool). b && true) (term_good constants k.names k.measured k.signal w clean'))
+    by_tests false false true (Some head.M) e f g i = rw (e, f, i, g) refl
+    by_tests false false false (Some head.M) e f g i =
+        let clean' : judge_by constants k last (role_behind p.mark) w ≡ None =
+        rw (e, i, f, g) at clean in
+        rw (e, f, i, g) (behind_good constants is_first k last p.mark w refl refl clean')
+    by_tests false false true None e f g i = rw (e, f, i, g) refl
+    by_tests false false false None e f g i = rw (e, f, i, g) refl
+    by_tests false false true (Some _) e f g i = rw (e, f, i, g) refl
+    by_tests false false false (Some _) e f g i = rw (e, f, i, g) refl
+
+second_good : (constants : Bool) (k : Known) (last : Option Head) (p : Point) (w : List ℕ)
+    → judge_by constants k last (role_of p) w ≡ None
+    → AreGood constants k.names k.measured (added_second p w)
+second_good constants k last p w clean =
+    by_tests (p.count == 0) (p.count == 1) (p.count == 2) p.head refl refl refl refl
+  where
+    by_tests : (a b c : Bool) (hd : Option Head) → (p.count == 0) ≡ a → (p.count == 1) ≡ b
+        → (p.count == 2) ≡ c → p.head ≡ hd
+        → AreGood constants k.names k.measured (added_second p w)
+    by_tests true b c hd e f g i = rw e refl
+    by_tests false true c hd e f g i = rw (e, f) refl
+    by_tests false false true hd e f g i = rw (e, f, g) refl
+    by_tests false false false (Some head.M) e f g i =
+        let clean' : judge_by constants k last (role_behind p.mark) w ≡ None =
+        rw (e, i, f, g) at clean in
+        rw (e, f, g, i) (behind_good constants is_second k last p.mark w refl refl clean')
+    by_tests false false false None e f g i = rw (e, f, g, i) refl
+    by_tests false false false (Some _) e f g i = rw (e, f, g, i) refl
+
+-- and those of a line
+module _ (constants : Bool) (adds : Point → List ℕ → Words)
+    (good : (k : Known) (last : Option Head) (p : Point) (w : List ℕ)
+    → judge_by constants k last (role_of p) w ≡ None
+    → AreGood constants k.names k.measured (adds p w)) where
+  words_good : (before : Lines) (h : List ℕ) (xs ws : Words) → is_defining (head_of h) ≡ false
+      → CleanWords (rules_with constants) before (h ∷ xs) ws
+      → AreGood constants (names_at is_defining before []) (measured_in before)
+      (words_by adds (point_of before (h ∷ xs)) ws)
+  words_good before h xs [] gate clean = refl
+  words_good before h xs (w ∷ ws) gate clean =
+      let names = names_at is_defining before [] in
+      let measured = measured_in before in
+      let p = point_of before (h ∷ xs) in
+      let one = good (known_at before (h ∷ xs)) p.last p w clean.0 in
+      let one' : AreGood constants names measured (adds p w) =
+      rw (names_stay is_defining before h xs gate) at one in
+      let rest = subst
+      (λ (q : Point). AreGood constants names measured (words_by adds q ws))
+      (point_of-more before (h ∷ xs) w)
+      (words_good before h (xs ++ w ∷ []) ws gate clean.1) in
+      list_all-append (is_good constants names measured) (adds p w)
+      (words_by adds (next_point p w) ws)
+      ∙ ap₂ (λ (a b : Bool). a && b) one' rest
+
+module _ (constants : Bool) (before : Lines) (h : List ℕ) (ws : Words)
+    (gate : is_defining (head_of h) ≡ false)
+    (clean : CleanWords (rules_with constants) before (h ∷ []) ws) where
+  pub first_signal_good : AreGood constants (names_at is_defining before []) (measured_in before)
+      (first_signal (h ∷ ws))
+  first_signal_good = subst
+      (AreGood constants (names_at is_defining before []) (measured_in before))
+      (words_by-last added_first (λ p last w. refl) (last_head before)
+      (next_point (first_point None) h) ws)
+      (words_good constants added_first (first_good constants) before h [] ws gate clean)
+
+  pub second_signal_good : AreGood constants (names_at is_defining before []) (measured_in before)
+      (second_signal (h ∷ ws))
+  second_signal_good = subst
+      (AreGood constants (names_at is_defining before []) (measured_in before))
+      (words_by-last added_second (λ p last w. refl) (last_head before)
+      (next_point (first_point None) h) ws)
+      (words_good constants added_second (second_good constants) before h [] ws gate clean)
+
 -- a signal of such terms
 pub good_held : (constants : Bool) (names measured : List (List ℕ)) (words : Words)
-    → AreGood constants names measured words → list_all (is_held names) (names_among words) ≡ true
+    → AreGood constants names measured words → list_all (is_held names) (named words) ≡ true
 good_held constants names measured [] good = refl
 good_held constants names measured (w ∷ words) good =
-    let both = and_both (is_good constants names measured w)
+    let both = and_parts (is_good constants names measured w)
     (list_all (is_good constants names measured) words) good in
-    by_test (is_constant w) refl both.0 (good_held constants names measured words both.1)
+    by_test (is_one w) refl both.0 (good_held constants names measured words both.1)
   where
-    by_test : (t : Bool) → is_constant w ≡ t → is_good constants names measured w ≡ true
-        → list_all (is_held names) (names_among words) ≡ true
-        → list_all (is_held names) (names_among (w ∷ words)) ≡ true
+    by_test : (t : Bool) → is_one w ≡ t → is_good constants names measured w ≡ true
+        → list_all (is_held names) (named words) ≡ true
+        → list_all (is_held names) (named (w ∷ words)) ≡ true
     by_test true e one rest = rw e rest
     by_test false e one rest =
         let one' = rw e at one in
-        let held = (and_both (is_held names w) (is_held measured w) one').0 in
+        let held = (and_parts (is_held names w) (is_held measured w) one').0 in
         rw (e, held, rest) refl
 
 members_done : (constants : Bool) (names measured : List (List ℕ)) (marks : Bits) (words : Words)
     (q : ℕ) → AreMarked names measured marks → AreGood constants names measured words
-    → is_member (map (number_in names) (names_among words)) q ≡ true → marks q ≡ true
+    → is_member (map (number_in names) (named words)) q ≡ true → marks q ≡ true
 members_done constants names measured marks [] q are good member = absurd (cc member)
 members_done constants names measured marks (w ∷ words) q are good member =
-    let both = and_both (is_good constants names measured w)
+    let both = and_parts (is_good constants names measured w)
     (list_all (is_good constants names measured) words) good in
-    by_test (is_constant w) refl both.0
+    by_test (is_one w) refl both.0
     (members_done constants names measured marks words q are both.1)
   where
-    by_test : (t : Bool) → is_constant w ≡ t → is_good constants names measured w ≡ true
-        → (is_member (map (number_in names) (names_among words)) q ≡ true → marks q ≡ true)
+    by_test : (t : Bool) → is_one w ≡ t → is_good constants names measured w ≡ true
+        → (is_member (map (number_in names) (named words)) q ≡ true → marks q ≡ true)
         → marks q ≡ true
     by_test true e one rest = rest (rw e at member)
     by_test false e one rest =
         let one' = rw e at one in
-        let held = and_both (is_held names w) (is_held measured w) one' in
+        let held = and_parts (is_held names w) (is_held measured w) one' in
         let place = place-held names w held.0 in
         let number : number_in names w ≡ place.0 = rw place.1 refl in
         let member' = rw (e, number) at member in
-        elim (or_either (nat_eq q place.0)
-        (is_member (map (number_in names) (names_among words)) q) member') [
+        elim (or_cases (nat_eq q place.0)
+        (is_member (map (number_in names) (named words)) q) member') [
           | inl same ↦
               ap marks (eqb-true q place.0 same)
               ∙ marked-name names measured marks w place.0 are place.1 ∙ held.1
@@ -161,51 +259,21 @@ pub signal_done : (constants : Bool) (names measured : List (List ℕ)) (marks :
     (words : Words) → AreMarked names measured marks → AreGood constants names measured words
     → AreDone marks (signal_in names words)
 signal_done constants names measured marks words are good = λ q member.
-    let p = is_member (map (number_in names) (names_among words)) in
+    let p = is_member (map (number_in names) (named words)) in
     members_done constants names measured marks words q are good
     (and_true_left (p q) (nat_lt q (length names))
     (sym (member_where p (length names) q) ∙ member))
 
-spelled_itself : (names : List (List ℕ)) (words : Words)
-    → list_all (is_held names) (names_among words) ≡ true
-    → IsSpelled names words (signal_in names words)
-spelled_itself names words held = record {
-  members = record {
-    held = held;
-    marked = λ q.
-        let p = is_member (map (number_in names) (names_among words)) in
-        member_where p (length names) q ∙ by_test q (p q) refl;
-  };
-  constant = refl;
-}
-  where
-    by_test : (q : ℕ) (t : Bool) → is_member (map (number_in names) (names_among words)) q ≡ t
-        → (is_member (map (number_in names) (names_among words)) q && nat_lt q (length names))
-        ≡ is_member (map (number_in names) (names_among words)) q
-    by_test q true e =
-        let lt = numbers_below names (names_among words) q held e in
-        rw (e, lt-ltb q (length names) lt) refl
-    by_test q false e = rw e refl
-
--- and it stays the same under more names
-pub signal_stays : (names more : List (List ℕ)) (words : Words)
-    → list_all (is_held names) (names_among words) ≡ true
-    → signal_in (names ++ more) words ≡ signal_in names words
-signal_stays names more words held =
-    sym (signal_same names more words (signal_in names words)
-    (rising_where (is_member (map (number_in names) (names_among words))) (length names))
-    (spelled_itself names words held))
-
 pub good_plain : (constants : Bool) (names measured : List (List ℕ)) (words : Words)
     → constants ≡ false → AreGood constants names measured words
-    → list_any is_constant words ≡ false
+    → has_one words ≡ false
 good_plain constants names measured [] none good = refl
 good_plain constants names measured (w ∷ words) none good =
-    let both = and_both (is_good constants names measured w)
+    let both = and_parts (is_good constants names measured w)
     (list_all (is_good constants names measured) words) good in
-    by_test (is_constant w) refl both.0 (good_plain constants names measured words none both.1)
+    by_test (is_one w) refl both.0 (good_plain constants names measured words none both.1)
   where
-    by_test : (t : Bool) → is_constant w ≡ t → is_good constants names measured w ≡ true
-        → list_any is_constant words ≡ false → list_any is_constant (w ∷ words) ≡ false
+    by_test : (t : Bool) → is_one w ≡ t → is_good constants names measured w ≡ true
+        → has_one words ≡ false → has_one (w ∷ words) ≡ false
     by_test true e one rest = let one' = rw (e, none) at one in absurd (cc one')
     by_test false e one rest = rw (e, rest) refl

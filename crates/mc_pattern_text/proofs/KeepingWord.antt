@@ -20,8 +20,8 @@ use Rattle.mc_pattern_text.specs.declared.reader.Reader.{Reader}
 use Rattle.mc_pattern_text.specs.declared.reader.Operands.{Operands}
 use Rattle.mc_pattern_text.specs.Roles.{role_of, is_defining, is_input}
 use Rattle.mc_pattern_text.specs.Roles.{is_entangling, is_command, has_operand, is_output}
-use Rattle.mc_pattern_text.specs.Value.{spelled_commands}
-use Rattle.mc_pattern_text.specs.Judge.{Known, measured_in, first_signal, second_signal}
+use Rattle.mc_pattern_text.specs.Value.{first_signal, second_signal, spelled_commands}
+use Rattle.mc_pattern_text.specs.Judge.{Known, measured_in}
 use Rattle.mc_pattern_text.specs.Judge.{is_in_second, known_at}
 use Rattle.mc_pattern_text.specs.Judge.{judge_by, rules_with}
 use Rattle.mc_pattern_text.specs.Kept.{IsKept, AreMarked, IsSpelled, AreOperands, IsOperand}

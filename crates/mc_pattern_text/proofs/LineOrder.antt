@@ -1,13 +1,10 @@
 -- Which lines may stand behind which.
-use Rattle.std.proofs.Common.{◌≡◌, ℕ, ◌<◌, List, Bool, true, false, Option, Some, None, refl, arith}
-use Rattle.std.proofs.Common.{nat_le, ◌⊎◌, inl, inr}
+use Rattle.std.proofs.Common.{◌≡◌, Bool, true, false, Option, Some, None, refl}
+use Rattle.std.proofs.Common.{◌⊎◌, inl, inr}
 use Rattle.std.proofs.lemmas.Bool.{cases_Bool}
-use Rattle.std.proofs.lemmas.Bool.Decides.{nat_tests}
 use Rattle.mc_text.specs.declared.head.Head.{Head}
 use Rattle.mc_text.specs.declared.head.Head.TheVariants.{In, N, E, M, X, Z, Out, End}
-use Rattle.mc_text.specs.Heads.{head_of}
-use Rattle.mc_pattern_text.specs.Roles.{may_follow, is_command, is_ending}
-use Rattle.mc_pattern_text.specs.Judge.{next_record}
+use Rattle.mc_pattern_text.specs.Roles.{may_follow, is_ending}
 
 -- a list of outputs stands before
 abbrev pub is_closed : Option Head → Bool
@@ -77,16 +74,3 @@ first_line (Some M) e = absurd (cc e)
 first_line (Some X) e = absurd (cc e)
 first_line (Some Z) e = absurd (cc e)
 first_line (Some _) e = absurd (cc e)
-
--- a record word with nothing against it
-pub follows_by : (last : Option Head) (word : List ℕ) (commands : ℕ) (t : Bool)
-    → may_follow last (head_of word) ≡ t → next_record last commands word ≡ None → t ≡ true
-follows_by last word commands true e clean = refl
-follows_by last word commands false e clean = let clean' = rw e at clean in absurd (cc clean')
-
-pub room_by : (last : Option Head) (word : List ℕ) (commands : ℕ) (t : Bool)
-    → may_follow last (head_of word) ≡ true → nat_le 262144 commands ≡ t
-    → next_record last commands word ≡ None → is_command (head_of word) ≡ true → commands < 262144
-room_by last word commands true e f clean gate =
-    let clean' = rw (e, gate, f) at clean in absurd (cc clean')
-room_by last word commands false e f clean gate = grind (arith, nat_tests)

@@ -3,6 +3,7 @@ use Rattle.std.proofs.Common.{◌≡◌, ℕ, zero, suc, ◌+◌, ◌<◌, ◌�
 use Rattle.std.proofs.Common.{◌∷◌, ◌++◌, length, map, take, codes, refl, sym, ap, ap₂, ◌∙◌}
 use Rattle.std.proofs.Common.{append_assoc, arith, Option, Some, None, IsTrue, if◌then◌else◌}
 use Rattle.std.proofs.Common.{◌==◌, ◌⊎◌, inl, inr}
+use Rattle.std.proofs.lemmas.Bool.{and_parts}
 use Rattle.std.specs.Option.{option_map}
 use Rattle.std.specs.Fmt.{decimal}
 use Rattle.std.specs.List.{filter_map, flat_map, list_all, list_any}
@@ -28,7 +29,6 @@ use Rattle.mc_pattern.specs.Typed.{IsTyped, AllTyped}
 use Rattle.mc_text.specs.declared.head.Head.{Head}
 use Rattle.mc_text.specs.declared.point.Mark.{Mark}
 use Rattle.mc_text.specs.declared.point.Mark.TheVariants.{S, T}
-use Rattle.mc_text.specs.Points.{mark_of}
 use Rattle.mc_text.specs.Headers.{header_words, version_word, turn_words}
 use Rattle.mc_text.specs.Judged.{Words, Lines, words_of, section_lines}
 use Rattle.mc_text.specs.Lists.{names_in, names_at}
@@ -38,20 +38,22 @@ use Rattle.mc_text.proofs.Naming.{number-name_at, numbers-name_at, is_name-name_
 use Rattle.mc_text.proofs.Naming.{number_written}
 use Rattle.mc_text.proofs.Written.{is_written, is_written_line}
 use Rattle.mc_pattern_text.specs.Roles.{is_defining, is_input, is_output}
-use Rattle.mc_pattern_text.specs.Value.{is_first, is_second, words_under, Spelled, spelled_m}
+use Rattle.mc_pattern_text.specs.Value.{is_first, is_second, first_signal, second_signal, signal_in}
+use Rattle.mc_pattern_text.specs.Value.{Spelled, spelled_m}
 use Rattle.mc_pattern_text.specs.Value.{spelled_command, spelled_commands, command_by, pattern_of}
 use Rattle.mc_pattern_text.specs.Judge.{pattern_rules}
 use Rattle.mc_pattern_text.specs.Written.{IsNamed, AreNamed}
-use Rattle.mc_pattern_text.specs.Canonical.{pattern_version, constant_words, signal_words, marked}
+use Rattle.mc_pattern_text.specs.Canonical.{pattern_version, signal_words, marked}
 use Rattle.mc_pattern_text.specs.Canonical.{command_line, pattern_lines, pattern_text}
 use Rattle.mc_pattern_text.specs.Canonical.{behind_header}
 use Rattle.mc_pattern_text.proofs.NamedCommands.{pattern_named}
 use Rattle.mc_pattern_text.proofs.NamedSignals.{names_written, words_back}
 use Rattle.mc_pattern_text.proofs.CleanCommands.{IsAfter}
-use Rattle.mc_pattern_text.proofs.CleanLines.{AreUnmarked, signal_unmarked, under-append}
-use Rattle.mc_pattern_text.proofs.CleanLines.{two_under, decimal_no_mark}
+use Rattle.mc_rows.specs.Written.{set_words}
+use Rattle.mc_pattern_text.proofs.CleanLines.{AreUnmarked, signal_unmarked}
+use Rattle.mc_pattern_text.proofs.CleanLines.{first_under, second_under, decimal_no_mark}
+use Rattle.mc_pattern_text.proofs.Under.{words_under, under-append, correction_behind}
 use Rattle.mc_pattern_text.proofs.CleanText.{command_after, inputs_after, pattern_clean}
-use Rattle.mc_pattern_text.proofs.Parts.{and_both}
 
 -- the canonical lines can be written
 front_written : (m : ℕ) (ns : List Name) → list_all is_name ns ≡ true
@@ -59,12 +61,11 @@ front_written : (m : ℕ) (ns : List Name) → list_all is_name ns ≡ true
 front_written zero ns all = refl
 front_written (suc m) [] all = refl
 front_written (suc m) (n ∷ ns) all =
-    let both = and_both (is_name n) (list_all is_name ns) all in
+    let both = and_parts (is_name n) (list_all is_name ns) all in
     rw (name_written n both.0, front_written m ns both.1) refl
 
 words_written : (ns : List Name) (qs : List ℕ) (b : Bool) → AreNames ns
-    → All (λ q. q < length ns) qs
-    → list_all is_written (map (name_at ns) qs ++ constant_words b) ≡ true
+    → All (λ q. q < length ns) qs → list_all is_written (set_words ns qs b) ≡ true
 words_written ns qs true valid below =
     let names = names_written ns qs valid below in
     list_all-append is_written (map (name_at ns) qs) (codes "!" ∷ []) ∙ rw names refl
@@ -170,23 +171,18 @@ t_under : (test : Option Mark → Bool) (mark : Option Mark) (words : Words) →
 t_under test mark [] plain = if_both (test (Some T))
 t_under test mark (word ∷ words) plain = (plain (Some T)).1 test
 
-both_under : (test : Option Mark → Bool) (w a : List ℕ) (ss ts : Words) → mark_of w ≡ None
-    → mark_of a ≡ None → AreUnmarked ss → AreUnmarked ts → test None ≡ false
-    → words_under test None (w ∷ a ∷ (marked (codes "s:") ss ++ marked (codes "t:") ts))
+both_under : (test : Option Mark → Bool) (ss ts : Words) → AreUnmarked ss → AreUnmarked ts
+    → words_under test None (marked (codes "s:") ss ++ marked (codes "t:") ts)
     ≡ (if test (Some S) then ss else []) ++ (if test (Some T) then ts else [])
-both_under test w a ss ts no_w no_a first second none =
-    let firsts = marked (codes "s:") ss in
-    let seconds = marked (codes "t:") ts in
-    two_under false [] w a no_w no_a test (firsts ++ seconds) none
-    ∙ under-append test None firsts seconds
+both_under test ss ts first second =
+    under-append test None (marked (codes "s:") ss) (marked (codes "t:") ts)
     ∙ ap₂ (λ (xs ys : Words). xs ++ ys) (s_under test None ss first) (t_under test _ ts second)
 
 meas_back : (half : ℕ) (ns : List Name) (q a : ℕ) (s t : Signal) → AreNames ns
     → IsTrue (is_permitted half) → IsNamed (length ns) (Meas q a s t) → IsTyped half (Meas q a s t)
-    → (let words = name_at ns q ∷ decimal a
-    ∷ (marked (codes "s:") (signal_words ns s) ++ marked (codes "t:") (signal_words ns t)) in
-    command_by half ns (spelled_m (name_at ns q) (decimal a) (words_under is_first None words)
-    (words_under is_second None words)))
+    → (let line = command_line ns (Meas q a s t) in
+    command_by half ns (spelled_m (name_at ns q) (decimal a) (first_signal line)
+    (second_signal line)))
     ≡ Meas q a s t
 meas_back half ns q a s t valid permitted named typed =
     let w = name_at ns q in
@@ -194,11 +190,12 @@ meas_back half ns q a s t valid permitted named typed =
     let no_a = decimal_no_mark half a permitted typed.0 in
     let s_plain = signal_unmarked ns s.members s.constant valid named.1 in
     let t_plain = signal_unmarked ns t.members t.constant valid named.2 in
-    let first = both_under is_first w (decimal a) (signal_words ns s) (signal_words ns t) no_w no_a
-    s_plain t_plain refl
+    let words = marked (codes "s:") (signal_words ns s) ++ marked (codes "t:") (signal_words ns t) in
+    let first = first_under false [] w (decimal a) no_w no_a words
+    ∙ both_under is_first (signal_words ns s) (signal_words ns t) s_plain t_plain
     ∙ append-nil (signal_words ns s) in
-    let second = both_under is_second w (decimal a) (signal_words ns s) (signal_words ns t) no_w
-    no_a s_plain t_plain refl in
+    let second = second_under false [] w (decimal a) no_w no_a words
+    ∙ both_under is_second (signal_words ns s) (signal_words ns t) s_plain t_plain in
     let number = number-name_at ns q valid.distinct named.0 in
     let angle = (angle-decimal half a permitted typed.0).1 in
     let s_back = words_back ns s valid typed.1 named.1 in
@@ -218,10 +215,12 @@ command_back half ns (Meas q a s t) valid permitted named typed =
     ap Some (meas_back half ns q a s t valid permitted named typed)
 command_back half ns (FixX q s) valid permitted named typed =
     ap₂ (λ k signal. Some (FixX k signal)) (number-name_at ns q valid.distinct named.0)
-    (words_back ns s valid typed named.1)
+    (ap (signal_in ns) (correction_behind (codes "x") (name_at ns q) (signal_words ns s) refl)
+    ∙ words_back ns s valid typed named.1)
 command_back half ns (FixZ q s) valid permitted named typed =
     ap₂ (λ k signal. Some (FixZ k signal)) (number-name_at ns q valid.distinct named.0)
-    (words_back ns s valid typed named.1)
+    (ap (signal_in ns) (correction_behind (codes "z") (name_at ns q) (signal_words ns s) refl)
+    ∙ words_back ns s valid typed named.1)
 
 command_more : (f : Spelled → Command) (o : Option Spelled) (c : Command) (ds : List Command)
     (lines : Lines) (here : Words) → spelled_command here ≡ o → option_map f o ≡ Some c

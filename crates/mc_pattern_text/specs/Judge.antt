@@ -1,5 +1,5 @@
 -- The rules and limits of a pattern's section.
-use Rattle.std.specs.Prelude.{ℕ, List, [], ◌∷◌, ◌++◌, drop, Bool, true, false, not, ◌&&◌, ◌||◌}
+use Rattle.std.specs.Prelude.{ℕ, List, [], ◌∷◌, Bool, true, false, not, ◌&&◌, ◌||◌}
 use Rattle.std.specs.Prelude.{◌==◌}
 use Rattle.std.specs.Prelude.{nat_le, length, if◌then◌else◌, Option, None, Some, suc}
 use Rattle.std.specs.List.{list_all}
@@ -15,25 +15,18 @@ use Rattle.mc_text.specs.Points.{mark_of, point_of}
 use Rattle.mc_text.specs.Judged.{Judgement, Words, Lines, Rules}
 use Rattle.mc_text.specs.Rules.{broken, passed, or_next, new_name, known_name, listed_name}
 use Rattle.mc_text.specs.Rules.{angle_word}
-use Rattle.mc_text.specs.Lists.{names_in, names_at, operand_at, operands_at}
+use Rattle.mc_text.specs.Lists.{names_at, operand_at, operands_at}
+use Rattle.mc_rows.specs.Rows.{is_one, has_one, named}
 use Rattle.mc_pattern_text.specs.Roles.{Role, record_word, input, prepared, operand, second, angle}
 use Rattle.mc_pattern_text.specs.Roles.{opening, first_term, term, output, surplus, may_follow}
 use Rattle.mc_pattern_text.specs.Roles.{role_of, is_defining, is_command, has_operand, is_measuring}
-use Rattle.mc_pattern_text.specs.Roles.{is_correcting, is_output}
-use Rattle.mc_pattern_text.specs.Value.{is_first, is_second, is_constant, words_under}
+use Rattle.mc_pattern_text.specs.Roles.{is_output}
+use Rattle.mc_pattern_text.specs.Value.{is_first, is_second, first_signal, second_signal}
 use Rattle.mc_pattern_text.specs.Value.{spelled_commands}
 
 -- the names that earlier lines measure
 abbrev pub measured_in : Lines → List (List ℕ)
 measured_in before = operands_at 0 is_measuring before
-
--- the words of the first signal of a line, and of the second
-abbrev pub first_signal : Words → Words
-first_signal here =
-    words_under is_first None (names_in is_measuring here) ++ drop 1 (names_in is_correcting here)
-
-abbrev pub second_signal : Words → Words
-second_signal here = words_under is_second None (names_in is_measuring here)
 
 -- whether a further word stands in the second signal of its line
 abbrev pub is_in_second : Point → Bool
@@ -83,15 +76,15 @@ output_name names measured listed word =
 -- a member of a signal, behind other words of it
 abbrev pub member_name : List (List ℕ) → List (List ℕ) → Words → List ℕ → Option Judgement
 member_name names measured signal word =
-    or_next (listed_name names signal word)
+    or_next (listed_name names (named signal) word)
     (broken ((not (is_held measured word), NotMeasured) ∷ []))
 
 -- a term of a signal: a member, or the constant where it may stand
 abbrev pub term_word : Bool → List (List ℕ) → List (List ℕ) → Words → List ℕ
     → Option Judgement
 term_word constants names measured signal word =
-    if constants && is_constant word
-    then broken ((is_held signal word, ListedTwice) ∷ [])
+    if constants && is_one word
+    then broken ((has_one signal, ListedTwice) ∷ [])
     else member_name names measured signal word
 
 -- a word that begins a signal

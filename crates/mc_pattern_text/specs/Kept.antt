@@ -1,33 +1,33 @@
 -- What a reader keeps of a pattern's lines, and what a word and the end of a line do to it.
 use Rattle.std.specs.Prelude.{◌≡◌, ℕ, ◌+◌, ◌<◌, List, [], ◌∷◌, ◌++◌, Bool, true}
-use Rattle.std.specs.Prelude.{false, ◌||◌, ◌==◌, ◌⊎◌, nat_eq, map, length, if◌then◌else◌}
+use Rattle.std.specs.Prelude.{false, map, length, if◌then◌else◌}
 use Rattle.std.specs.Prelude.{Option, None, Some, option_to_list}
-use Rattle.std.specs.List.{list_all, list_any}
+use Rattle.std.specs.List.{list_all}
 use Rattle.mc_angle.specs.Angle.{angle_of}
 use Rattle.mc_model.specs.Limits.{most_qubits}
 use Rattle.mc_model.specs.Bits.{Bits, replaced, bits_of}
 use Rattle.mc_model.specs.Numbers.{is_member}
-use Rattle.mc_model.specs.Names.{AreNames, is_name, is_held, place_of}
-use Rattle.mc_model.specs.Signals.{Signal, IsRising, no_signal}
+use Rattle.mc_model.specs.Names.{AreNames, is_held, place_of}
+use Rattle.mc_model.specs.Signals.{Signal, no_signal}
 use Rattle.mc_model.specs.Pattern as plain
 use Rattle.mc_text.specs.declared.head.Head.{Head}
 use Rattle.mc_text.specs.declared.head.Head.TheVariants.{N, E, M, X, Z}
 use Rattle.mc_text.specs.declared.point.Mark.{Mark}
 use Rattle.mc_text.specs.declared.point.Point.{Point}
-use Rattle.mc_text.specs.Points.{mark_of}
 use Rattle.mc_text.specs.Judged.{Words, Lines}
 use Rattle.mc_text.specs.Rules.{number_in, AreNumbers}
 use Rattle.mc_text.specs.Lists.{names_at, added, operand_at}
+use Rattle.mc_rows.specs.Kept.{AreMembers}
 use Rattle.mc_pattern.specs.Commands.{plain_command}
 use Rattle.mc_pattern_text.specs.declared.reader.Reader.{Reader}
 use Rattle.mc_pattern_text.specs.declared.reader.Operands.{Operands}
 use Rattle.mc_pattern_text.specs.Roles.{role_of, role_behind, is_defining, is_input}
-use Rattle.mc_pattern_text.specs.Roles.{is_entangling, is_measuring, is_correcting}
-use Rattle.mc_pattern_text.specs.Roles.{is_command, has_operand, is_output}
+use Rattle.mc_pattern_text.specs.Roles.{is_entangling, is_measuring}
+use Rattle.mc_pattern_text.specs.Roles.{is_command, is_output}
 use Rattle.mc_pattern_text.specs.Value.{is_first, is_second, word_under, spelled_commands}
-use Rattle.mc_pattern_text.specs.Value.{command_by, is_constant, names_among}
-use Rattle.mc_pattern_text.specs.Judge.{Known, measured_in, first_signal, second_signal}
-use Rattle.mc_pattern_text.specs.Judge.{is_in_second, judge_by, lacks_by}
+use Rattle.mc_pattern_text.specs.Value.{added_first, added_second, first_signal, second_signal}
+use Rattle.mc_pattern_text.specs.Value.{command_by}
+use Rattle.mc_pattern_text.specs.Judge.{Known, measured_in, is_in_second, judge_by, lacks_by}
 
 -- the names of a list are held, and marks stand at their numbers
 pub record AreMarked (names list : List (List ℕ)) (marks : Bits) : Type 0 where
@@ -35,16 +35,14 @@ pub record AreMarked (names list : List (List ℕ)) (marks : Bits) : Type 0 wher
   pub marked : (q : ℕ) → marks q ≡ is_member (map (number_in names) list) q
 
 -- these are the words of the signal: its members by their names, and perhaps the constant
-pub record IsSpelled (names : List (List ℕ)) (words : Words) (signal : Signal) : Type 0 where
-  pub members : AreMarked names (names_among words) (is_member signal.members)
-  pub constant : signal.constant ≡ list_any is_constant words
+abbrev pub IsSpelled : List (List ℕ) → Words → Signal → Type 0
+IsSpelled names words signal = AreMembers names words signal.members signal.constant
 
 -- what is kept of the words of a line
 pub record AreOperands {half : ℕ} (names : List (List ℕ)) (o : Operands half) (here : Words)
     : Type 0 where
   pub place : (a : List ℕ) → operand_at 0 is_command here ≡ Some a
       → place_of names a ≡ Some o.first
-  pub unmarked : (a : List ℕ) → operand_at 0 has_operand here ≡ Some a → mark_of a ≡ None
   pub second : (b : List ℕ) → operand_at 1 is_entangling here ≡ Some b
       → place_of names b ≡ Some o.second
   pub angle : (b : List ℕ) → operand_at 1 is_measuring here ≡ Some b → o.angle ≡ angle_of half b
@@ -89,45 +87,16 @@ known_by names measured listed signal first commands = record {
   commands = commands;
 }
 
--- the words that a word adds to the first signal of its line, and to the second
-abbrev pub added_first : Point → List ℕ → Words
-added_first p word =
-    if p.count == 0 then []
-    else (if p.count == 1 then []
-    else (if is_correcting p.head then word ∷ []
-    else (if p.count == 2 then []
-    else (if is_measuring p.head then word_under is_first p.mark word else []))))
-
-abbrev pub added_second : Point → List ℕ → Words
-added_second p word =
-    if p.count == 0 then []
-    else (if p.count == 1 then []
-    else (if p.count == 2 then []
-    else (if is_measuring p.head then word_under is_second p.mark word else [])))
-
--- a qubit goes into a signal, or the constant does
-pub record AddsMember (names : List (List ℕ)) (s s' : Signal) (word : List ℕ) : Type 0 where
-  pub number : ℕ
-  pub place : place_of names word ≡ Some number
-  pub name : is_constant word ≡ false
-  pub members : (r : ℕ) → is_member s'.members r ≡ is_member s.members r || nat_eq r number
-  pub constant : s'.constant ≡ s.constant
-
-pub record AddsConstant (s s' : Signal) (word : List ℕ) : Type 0 where
-  pub is : is_constant word ≡ true
-  pub members : s'.members ≡ s.members
-  pub constant : s'.constant ≡ true
-
--- a term goes into a signal, where there is one
+-- terms go into a signal, where there are any
 abbrev pub Joins : List (List ℕ) → Signal → Signal → Words → Type 0
 Joins names s s' [] = s' ≡ s
-Joins names s s' (word ∷ words) = AddsMember names s s' word ⊎ AddsConstant s s' word
+Joins names s s' (word ∷ more) =
+    (words : Words) → IsSpelled names words s → IsSpelled names (words ++ word ∷ more) s'
 
 -- what a word does to what is kept of its line
 pub record Fills {half : ℕ} (names : List (List ℕ)) (o o' : Operands half) (p : Point)
     (word : List ℕ) : Type 0 where
   pub place : p.count ≡ 1 → is_command p.head ≡ true → place_of names word ≡ Some o'.first
-  pub name : p.count ≡ 1 → has_operand p.head ≡ true → is_name word ≡ true
   pub same_first : ¬ (p.count ≡ 1) → o'.first ≡ o.first
   pub second : p.count ≡ 2 → is_entangling p.head ≡ true → place_of names word ≡ Some o'.second
   pub angle : p.count ≡ 2 → is_measuring p.head ≡ true → o'.angle ≡ angle_of half word
@@ -199,11 +168,6 @@ abbrev pub marks_with : Option Head → ℕ → Bits → Bits
 marks_with (Some M) q marks = replaced marks q true
 marks_with _ q marks = marks
 
--- what types say of operands: sets are in order
-pub record AreTyped {half : ℕ} (o : Operands half) : Type 0 where
-  pub s : IsRising o.s.members
-  pub t : IsRising o.t.members
-
 -- what the end of a line with nothing against it does
 pub record Ends {half : ℕ} (k k' : Reader half) (p : Point) : Type 0 where
   pub clean : (measured listed : List (List ℕ)) (signal : Words) (first : Option (List ℕ))
@@ -215,7 +179,6 @@ pub record Ends {half : ℕ} (k k' : Reader half) (p : Point) : Type 0 where
   pub names : k'.names ≡ k.names
   pub inputs : k'.inputs ≡ k.inputs
   pub outputs : k'.outputs.items ≡ k.outputs.items
-  pub typed : AreTyped k.operands
   pub commands : map (plain_command {h = half}) k'.commands.items
       ≡ map (plain_command {h = half}) k.commands.items
       ++ option_to_list (command_with p.head k.operands)

@@ -15,12 +15,12 @@ ghost use Rattle.mc_text.specs.Rules.{angle_word};
 ghost use Rattle.mc_text.specs.Stops.{IsStop};
 ghost use Rattle.mc_text.specs.declared.head.Head.{Head as PlainHead};
 ghost use Rattle.mc_pattern_text.specs.Roles.{has_operand, role_of, role_behind};
-ghost use Rattle.mc_pattern_text.specs.Value.{is_constant as constant_word};
+ghost use Rattle.mc_rows.specs.Rows.{is_one};
 ghost use Rattle.mc_pattern_text.specs.Judge.{judge_by, still_name, second_name, member_name};
 ghost use Rattle.mc_pattern_text.specs.Judge.{opening_word, term_word};
 ghost use Rattle.mc_pattern_text.specs.Kept.{AreMarked, IsOperand, IsSpelled, Joins};
-ghost use Rattle.mc_pattern_text.specs.Kept.{AddsMember, AddsConstant, Stands, Takes, TakesBehind};
-ghost use Rattle.mc_pattern_text.specs.Kept.{signal_behind, known_by, command_with, AreTyped};
+ghost use Rattle.mc_pattern_text.specs.Kept.{Stands, Takes, TakesBehind, signal_behind, known_by};
+ghost use Rattle.mc_pattern_text.specs.Kept.{command_with};
 
 use crate::reader::Operands;
 use mc_angle::Angle;
@@ -48,11 +48,8 @@ impl<const H: usize> Operands<H> {
 
     /// The command of a line with this record word.
     pub(crate) fn command(self, head: Option<Head>) -> Option<Command<H>>
-        ensures command { option_map plain_command result ≡ command_with head self.entry }
-        ensures typed { AreTyped self.entry }
+        ensures { option_map plain_command result ≡ command_with head self.entry }
     {
-        // the proof needs that sets are in order
-        let _members = (self.s.members().len(), self.t.members().len());
         match head {
             Some(Head::N) => Some(Command::Prep(self.first)),
             Some(Head::E) => Some(Command::Ent(self.first, self.second)),
@@ -171,7 +168,7 @@ fn take_angle<const H: usize>(kept: &mut Angle<H>, word: &[u8]) -> Result<(), St
 
 /// Whether a word is that of the constant.
 fn is_constant(word: &[u8]) -> bool
-    ensures { result ≡ constant_word word.now }
+    ensures { result ≡ is_one word.now }
 {
     word == b"!".as_slice()
 }
@@ -194,13 +191,13 @@ fn take_member(names: &Names, marks: &[bool], signal: &mut Signal, word: &[u8]) 
         → AreMarked names.now measured (bits_of marks.now) → IsSpelled names.now words signal.old
         → member_name names.now measured words word.now ≡ None) }
     ensures name { OnOk result (is_name word.now ≡ true) }
-    ensures adds { OnOk result (AddsMember names.now signal.old signal.new word.now) }
+    ensures joins { OnOk result (Joins names.now signal.old signal.new (word.now ∷ [])) }
     ensures err { IfErr result (λ stop. (measured words : List (List ℕ))
         → AreMarked names.now measured (bits_of marks.now) → IsSpelled names.now words signal.old
         → IsStop stop (member_name names.now measured words word.now)) }
 {
-    // the proof needs that there are at most 256 names, and that the members are in order
-    let _count = (names.len(), signal.members().len());
+    // the proof needs that there are at most 256 names
+    let _count = names.len();
     let number = match known(names, word) {
         Ok(number) => number,
         Err(stop) => return Err(stop),
@@ -220,10 +217,10 @@ fn take_member(names: &Names, marks: &[bool], signal: &mut Signal, word: &[u8]) 
 /// Takes the constant of a signal.
 #[tactic(auto, using(crate::proofs::Terms::constant_terms))]
 fn take_constant(signal: &mut Signal, word: &[u8]) -> Result<(), Stop>
-    requires { constant_word word.now ≡ true }
+    requires { is_one word.now ≡ true }
     ensures clean { OnOk result ((names measured words : List (List ℕ))
         → IsSpelled names words signal.old → term_word true names measured words word.now ≡ None) }
-    ensures adds { OnOk result (AddsConstant signal.old signal.new word.now) }
+    ensures joins { OnOk result ((names : List (List ℕ)) → Joins names signal.old signal.new (word.now ∷ [])) }
     ensures err { IfErr result (λ stop. (names measured words : List (List ℕ))
         → IsSpelled names words signal.old
         → IsStop stop (term_word true names measured words word.now)) }

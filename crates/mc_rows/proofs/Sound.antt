@@ -1,5 +1,5 @@
 -- The lines of sound rows are read without a fault, as these rows.
-use Rattle.std.proofs.Common.{◌≡◌, ℕ, zero, suc, ◌+◌, ◌<◌, ◌≤◌, All, List, [], ◌∷◌, ◌++◌, Bool}
+use Rattle.std.proofs.Common.{◌≡◌, ℕ, ◌+◌, ◌<◌, ◌≤◌, All, List, [], ◌∷◌, ◌++◌, Bool}
 use Rattle.std.proofs.Common.{true}
 use Rattle.std.proofs.Common.{false, ◌&&◌, nat_le, drop, length, map, codes, refl, sym, ap, ◌∙◌}
 use Rattle.std.proofs.Common.{arith, nat_eq}
@@ -12,7 +12,7 @@ use Rattle.std.proofs.lemmas.List.{append-nil, map-append}
 use Rattle.std.proofs.lemmas.List.Elements.{filter_map-append, All-head, All-tail}
 use Rattle.std.proofs.lemmas.List.Folds.{list_all-append}
 use Rattle.std.proofs.lemmas.List.Sums.{fold-append}
-use Rattle.mc_model.specs.Names.{Name, AreNames, is_held}
+use Rattle.mc_model.specs.Names.{Name, AreNames}
 use Rattle.mc_model.specs.Numbers.{is_member}
 use Rattle.mc_model.specs.Signals.{IsRising}
 use Rattle.mc_angle.proofs.Numerals.{number-decimal}
@@ -35,14 +35,14 @@ use Rattle.mc_rows.specs.declared.row.Shape.TheVariants.{Set, NamedSet, RankedSe
 use Rattle.mc_rows.specs.declared.row.Role.{Role}
 use Rattle.mc_rows.specs.declared.row.Role.TheVariants as role
 use Rattle.mc_rows.specs.declared.row.Row.{Row}
-use Rattle.mc_rows.specs.Rows.{role_behind, role_at, words_in, words_from, members_in, is_number}
+use Rattle.mc_rows.specs.Rows.{role_behind, role_at, words_from, members_in, is_number}
 use Rattle.mc_rows.specs.Rows.{is_listed}
 use Rattle.mc_rows.specs.Rows.{number_by, set_by, has_one}
 use Rattle.mc_rows.specs.Rows.{row_in, rows_in, spelled_row}
-use Rattle.mc_rows.specs.Judge.{Kind, judge_by, lacks_by, row_rules, name_word, member_word}
+use Rattle.mc_rows.specs.Judge.{Kind, judge_by, lacks_by, row_rules}
 use Rattle.mc_rows.specs.Kept.{has_name}
-use Rattle.mc_rows.specs.Written.{has_set, set_words, due_words, words_of_row, row_line, rows_lines}
-use Rattle.mc_rows.specs.Written.{IsPlain, IsNamed, IsSound, AreSound, IsWrittenHeader}
+use Rattle.mc_rows.specs.Written.{has_set, set_words, due_words, row_line, rows_lines}
+use Rattle.mc_rows.specs.Written.{IsPlain, IsSound, AreSound, IsWrittenHeader}
 use Rattle.mc_rows.proofs.Words.{role_here}
 use Rattle.mc_rows.proofs.Sets.{name_no_one, no_members}
 use Rattle.mc_rows.proofs.Lines.{head_spelled, listed_behind, number_back, name_back, named_all}

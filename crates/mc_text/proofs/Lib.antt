@@ -10,3 +10,8 @@ pub mod Written
 pub mod Clean
 pub mod Naming
 pub mod HeadersBack
+pub mod GoesOn
+pub mod NoLimits
+pub mod Places
+pub mod Unbroken
+pub mod Members

@@ -1,7 +1,8 @@
 -- What holds before the first line of a section, and goes on with each line that nothing is
--- against, holds behind a section without a fault.
-use Rattle.std.proofs.Common.{◌≡◌, List, [], ◌∷◌, ◌++◌, Bool, true, false, Option, Some, None, refl}
+-- against, or with each word and each end of a line, holds behind a section without a fault.
+use Rattle.std.proofs.Common.{◌≡◌, ℕ, List, [], ◌∷◌, ◌++◌, Bool, true, false, Option, Some, None, refl}
 use Rattle.std.proofs.Common.{append_assoc, subst, if◌then◌else◌}
+use Rattle.std.proofs.lemmas.List.{append-nil}
 use Rattle.mc_lex.specs.Lines.{Item, word, bad, Line}
 use Rattle.mc_text.specs.Judged.{Judgement, Words, Lines, Place, Rules, placed, or_later}
 use Rattle.mc_text.specs.Judged.{words_of, first_in_line, first_in_section, is_last, section_lines}
@@ -27,13 +28,13 @@ words_clean rules before here (word bytes line column ∷ items) lack clean =
     )
 words_clean rules before here (bad line column ∷ items) lack clean = absurd (cc clean)
 
--- it goes on
-abbrev pub GoesOn : Rules → (Lines → Type 0) → Type 0
-GoesOn rules P =
+-- it goes on line by line
+abbrev pub LinesGoOn : Rules → (Lines → Type 0) → Type 0
+LinesGoOn rules P =
     (before : Lines) (here : Words) → P before → CleanWords rules before [] here
     → P (before ++ here ∷ [])
 
-behind_lines : (rules : Rules) (P : Lines → Type 0) → GoesOn rules P → (before : Lines)
+behind_lines : (rules : Rules) (P : Lines → Type 0) → LinesGoOn rules P → (before : Lines)
     (lines : List Line) (end : Place) → P before → first_in_section rules before lines end ≡ None
     → P (before ++ section_lines lines)
 behind_lines rules P on before [] end p clean = absurd (cc clean)
@@ -57,6 +58,31 @@ behind_lines rules P on before (line ∷ lines) end p clean =
         (subst P (append_assoc before (words_of line.items ∷ []) (section_lines lines))
         (rest clean''))
 
-pub behind_clean : (rules : Rules) (P : Lines → Type 0) → GoesOn rules P → (lines : List Line)
-    (end : Place) → P [] → first_in_section rules [] lines end ≡ None → P (section_lines lines)
-behind_clean rules P on lines end p clean = behind_lines rules P on [] lines end p clean
+pub behind_clean_lines : (rules : Rules) (P : Lines → Type 0) → LinesGoOn rules P
+    → (lines : List Line) (end : Place) → P [] → first_in_section rules [] lines end ≡ None
+    → P (section_lines lines)
+behind_clean_lines rules P on lines end p clean = behind_lines rules P on [] lines end p clean
+
+-- it goes on word by word
+pub record GoesOn (rules : Rules) (P : Lines → Words → Type 0) : Type 0 where
+  pub with_word : (before : Lines) (here : Words) (word : List ℕ) → P before here
+      → rules.judge before here word ≡ None → P before (here ++ word ∷ [])
+  pub with_line : (before : Lines) (here : Words) → P before here
+      → rules.lacks before here ≡ None → P (before ++ here ∷ []) []
+
+behind_words : (rules : Rules) (P : Lines → Words → Type 0) → GoesOn rules P → (before : Lines)
+    (here words : Words) → P before here → CleanWords rules before here words
+    → P (before ++ (here ++ words) ∷ []) []
+behind_words rules P on before here [] p clean =
+    rw (append-nil here) (on.with_line before here p clean)
+behind_words rules P on before here (w ∷ words) p clean =
+    rw (← append_assoc here (w ∷ []) words)
+    (behind_words rules P on before (here ++ w ∷ []) words (on.with_word before here w p clean.0)
+    clean.1)
+
+pub behind_clean : (rules : Rules) (P : Lines → Words → Type 0) → GoesOn rules P
+    → (lines : List Line) (end : Place) → P [] [] → first_in_section rules [] lines end ≡ None
+    → P (section_lines lines) []
+behind_clean rules P on lines end p clean =
+    behind_clean_lines rules (λ before. P before [])
+    (λ before here q words. behind_words rules P on before [] here q words) lines end p clean
