@@ -2,8 +2,8 @@
 use Rattle.std.proofs.Common.{◌≡◌, ℕ, suc, ◌+◌, ◌*◌, ◌<◌, ◌≤◌, Bool, true}
 use Rattle.std.proofs.Common.{false, ◌&&◌, All}
 use Rattle.std.proofs.Common.{List, [], ◌∷◌, ◌++◌, length, map, take, drop, fold, codes, refl, sym}
-use Rattle.std.proofs.Common.{ap, ◌∙◌, append_assoc, arith, ne_eqb, nat_le, ◌⊎◌, Option, Some, None}
-use Rattle.std.proofs.Common.{IsTrue, if◌then◌else◌, ◌==◌}
+use Rattle.std.proofs.Common.{ap, ◌∙◌, append_assoc, arith, nat_le, ◌⊎◌, Option, Some, None}
+use Rattle.std.proofs.Common.{IsTrue}
 use Rattle.std.specs.Fmt.{decimal}
 use Rattle.std.specs.List.{list_all}
 use Rattle.std.proofs.lemmas.List.Sums.{fold-append}
@@ -39,109 +39,51 @@ use Rattle.mc_pattern.proofs.Members.{below_by}
 use Rattle.mc_rows.specs.Written.{set_words}
 use Rattle.mc_rows.proofs.Lines.{all_front, among, free, named_all}
 use Rattle.mc_rows.proofs.Sets.{name_no_one}
-use Rattle.mc_pattern_text.specs.Roles.{role_in, role_of, role_behind, is_defining, is_correcting}
-use Rattle.mc_pattern_text.specs.Value.{is_first, is_second, first_signal, second_signal}
+use Rattle.mc_pattern_text.specs.Roles.{term, role_of, role_behind, is_defining, is_correcting}
+use Rattle.mc_pattern_text.specs.Value.{first_of, second_of, first_signal, second_signal}
 use Rattle.mc_pattern_text.specs.Judge.{measured_in, member_name, term_word, rules_with}
 use Rattle.mc_pattern_text.specs.Canonical.{signal_words, marked, command_line}
-use Rattle.mc_pattern_text.proofs.Under.{onto_mark, mark_at, words_under, under-append}
-use Rattle.mc_pattern_text.proofs.Under.{first_behind, second_behind, correction_behind}
+use Rattle.mc_pattern_text.proofs.Parts.{names_stay}
+use Rattle.mc_pattern_text.proofs.Under.{AreUnmarked, behind, behind-append, correction_behind}
+use Rattle.mc_pattern_text.proofs.Under.{correction_role, first_behind, last_unmarked, mark_at}
+use Rattle.mc_pattern_text.proofs.Under.{onto_mark, role_behind_angle, second_behind, unmarked}
 use Rattle.mc_pattern_text.proofs.CleanCommands.{AreThere, AreMembers, record_clean, still_clean}
 use Rattle.mc_pattern_text.proofs.CleanCommands.{signal_members, split_at}
 
--- the role of a word behind the first of a correction
-pub correction_role : (before : Lines) (h : List ℕ) (w : List ℕ) (list : Words)
-    → role_of (point_of before (h ∷ w ∷ list))
-    ≡ role_in (head_of h) (point_of before (h ∷ w ∷ list)).count
-    (point_of before (h ∷ w ∷ list)).mark
-correction_role before h w list =
-    let count = count_at before (h ∷ w ∷ list) in
-    let some = ne_eqb (point_of before (h ∷ w ∷ list)).count 0 (λ none. omega arith) in
-    rw (some, head_at before (h ∷ w ∷ list)) refl
+-- a word of a correction's signal, and the end of its line
+module _ (constants : Bool) (before : Lines) (h w : List ℕ) (list : Words)
+    (gate : is_correcting (head_of h) ≡ true) where
+  role_here : role_of (point_of before (h ∷ w ∷ list)) ≡ term
+  role_here =
+      let count = count_at before (h ∷ w ∷ list) in
+      correction_role (point_of before (h ∷ w ∷ list))
+      (rw (head_at before (h ∷ w ∷ list)) gate) (omega arith)
 
-correction_judged : (constants : Bool) (before : Lines) (h w word : List ℕ) (list : Words)
-    → is_correcting (head_of h) ≡ true
-    → (rules_with constants).judge before (h ∷ w ∷ list) word
-    ≡ term_word constants (names_at is_defining before []) (measured_in before) list word
-correction_judged constants before h w word list gate = by_head (head_of h) refl gate
-  where
-    many : ((point_of before (h ∷ w ∷ list)).count == 1) ≡ false
-    many =
-        let count = count_at before (h ∷ w ∷ list) in
-        ne_eqb (point_of before (h ∷ w ∷ list)).count 1 (λ one. omega arith)
+  correction_judged : (word : List ℕ) → (rules_with constants).judge before (h ∷ w ∷ list) word
+      ≡ term_word constants (names_at is_defining before []) (measured_in before) list word
+  correction_judged word =
+      let stay = names_stay is_defining before h (w ∷ list) (not_defining (head_of h) gate) in
+      rw (role_here, correction_behind h w list gate, stay) refl
+    where
+      not_defining : (hd : Option Head) → is_correcting hd ≡ true → is_defining hd ≡ false
+      not_defining None e = absurd (cc e)
+      not_defining (Some X) e = refl
+      not_defining (Some Z) e = refl
+      not_defining (Some _) e = absurd (cc e)
 
-    by_head : (hd : Option Head) → head_of h ≡ hd → is_correcting hd ≡ true
-        → (rules_with constants).judge before (h ∷ w ∷ list) word
-        ≡ term_word constants (names_at is_defining before []) (measured_in before) list word
-    by_head None g e = absurd (cc e)
-    by_head (Some X) g e =
-        rw (
-          correction_behind h w list gate,
-          correction_role before h w list,
-          head_at before (h ∷ w ∷ list),
-          g,
-          many,
-        ) refl
-    by_head (Some Z) g e =
-        rw (
-          correction_behind h w list gate,
-          correction_role before h w list,
-          head_at before (h ∷ w ∷ list),
-          g,
-          many,
-        ) refl
-    by_head (Some _) g e = absurd (cc e)
+  correction_lacks : (rules_with constants).lacks before (h ∷ w ∷ list) ≡ None
+  correction_lacks = rw role_here refl
 
-correction_lacks : (constants : Bool) (before : Lines) (h w : List ℕ) (list : Words)
-    → is_correcting (head_of h) ≡ true
-    → (rules_with constants).lacks before (h ∷ w ∷ list) ≡ None
-correction_lacks constants before h w list gate = by_head (head_of h) refl gate
-  where
-    many : ((point_of before (h ∷ w ∷ list)).count == 1) ≡ false
-    many =
-        let count = count_at before (h ∷ w ∷ list) in
-        ne_eqb (point_of before (h ∷ w ∷ list)).count 1 (λ one. omega arith)
-
-    by_head : (hd : Option Head) → head_of h ≡ hd → is_correcting hd ≡ true
-        → (rules_with constants).lacks before (h ∷ w ∷ list) ≡ None
-    by_head None g e = absurd (cc e)
-    by_head (Some X) g e = rw (correction_role before h w list, g, many) refl
-    by_head (Some Z) g e = rw (correction_role before h w list, g, many) refl
-    by_head (Some _) g e = absurd (cc e)
-
--- words without marks
-abbrev pub AreUnmarked : Words → Type 0
-AreUnmarked words = (mark : Option Mark) → (fold onto_mark mark words ≡ mark)
-    × ((test : Option Mark → Bool) → words_under test mark words
-    ≡ (if test mark then words else []))
-
-unmarked-cons : (w : List ℕ) (words : Words) → mark_of w ≡ None → AreUnmarked words
-    → AreUnmarked (w ∷ words)
-unmarked-cons w words none rest mark = (
-  rw none (rest mark).0,
-  λ test. rw (none, (rest mark).1 test) (both (test mark)),
-)
-  where
-    both : (t : Bool) → (if t then w ∷ [] else []) ++ (if t then words else [])
-        ≡ (if t then w ∷ words else [])
-    both true = refl
-    both false = refl
-
-unmarked_none : AreUnmarked []
-unmarked_none mark = (refl, λ test. either (test mark))
-  where
-    either : (t : Bool) → let none : Words = [] in none ≡ (if t then none else none)
-    either true = refl
-    either false = refl
-
+-- the words of signals are no marks
 pub signal_unmarked : (ns : List Name) (qs : List ℕ) (b : Bool) → AreNames ns
     → All (λ q. q < length ns) qs → AreUnmarked (set_words ns qs b)
-signal_unmarked ns [] false valid below = unmarked_none
-signal_unmarked ns [] true valid below = unmarked-cons (codes "!") [] refl unmarked_none
+signal_unmarked ns [] false valid below = tt
+signal_unmarked ns [] true valid below = (refl, tt)
 signal_unmarked ns (q ∷ qs) b valid below =
-    let lt : q < length ns = below 0 q (omega arith) in
-    unmarked-cons (name_at ns q) (set_words ns qs b)
-    (name_no_mark (name_at ns q) (is_name-name_at ns q valid lt))
-    (signal_unmarked ns qs b valid (λ k d l. below (suc k) d (omega arith)))
+    let lt : q < length ns = below 0 q (omega arith) in (
+      name_no_mark (name_at ns q) (is_name-name_at ns q valid lt),
+      signal_unmarked ns qs b valid (λ k d l. below (suc k) d (omega arith)),
+    )
 
 names_unmarked : (ns : List Name) (qs : List ℕ) → AreNames ns → All (λ q. q < length ns) qs
     → AreUnmarked (map (name_at ns) qs)
@@ -217,10 +159,8 @@ m_role before h w a words g =
     let here = h ∷ w ∷ a ∷ words in
     let p = point_of before here in
     let count = count_at before here in
-    let none = ne_eqb p.count 0 (λ e. omega arith) in
-    let one = ne_eqb p.count 1 (λ e. omega arith) in
-    let two = ne_eqb p.count 2 (λ e. omega arith) in
-    rw (none, head_at before here, g, one, two, mark_at before h (w ∷ a ∷ words)) refl
+    role_behind_angle p (rw (head_at before here) g) (omega arith)
+    ∙ ap role_behind (mark_at before h (w ∷ a ∷ words))
 
 -- a number is a name, and so no mark
 digit_name : (b : ℕ) → is_digit b ≡ true → is_name_byte b ≡ true
@@ -250,12 +190,14 @@ decimal_no_mark half a permitted lt =
 -- the first signal, behind the angle
 record AreFirst (firsts : Words) : Type 0 where
   mark : (fold onto_mark None firsts ≡ None) ⊎ (fold onto_mark None firsts ≡ Some S)
-  none : words_under is_second None firsts ≡ []
+  none : behind second_of None firsts ≡ []
 
 first_words : (words : Words) → AreUnmarked words → AreFirst (marked (codes "s:") words)
 first_words [] plain = record { mark = inl refl; none = refl }
-first_words (word ∷ words) plain =
-    record { mark = inr (plain (Some S)).0; none = (plain (Some S)).1 is_second }
+first_words (word ∷ words) plain = record {
+  mark = inr (last_unmarked (Some S) (word ∷ words) plain);
+  none = unmarked second_of (Some S) false (λ w none. refl) (word ∷ words) plain;
+}
 
 module _ (constants : Bool) (before : Lines) (w a : List ℕ) (no_w : mark_of w ≡ None)
     (no_a : mark_of a ≡ None) where
@@ -263,93 +205,81 @@ module _ (constants : Bool) (before : Lines) (w a : List ℕ) (no_w : mark_of w 
   start = rw (no_w, no_a) refl
 
   pub first_under : (words : Words)
-      → first_signal (codes "m" ∷ w ∷ a ∷ words) ≡ words_under is_first None words
+      → first_signal (codes "m" ∷ w ∷ a ∷ words) ≡ behind first_of None words
   first_under words =
       first_behind (codes "m") w a words refl
-      ∙ ap (λ (mark : Option Mark). words_under is_first mark words) start
+      ∙ ap (λ (mark : Option Mark). behind first_of mark words) start
 
   pub second_under : (words : Words)
-      → second_signal (codes "m" ∷ w ∷ a ∷ words) ≡ words_under is_second None words
+      → second_signal (codes "m" ∷ w ∷ a ∷ words) ≡ behind second_of None words
   second_under words =
       second_behind (codes "m") w a words refl
-      ∙ ap (λ (mark : Option Mark). words_under is_second mark words) start
+      ∙ ap (λ (mark : Option Mark). behind second_of mark words) start
+
+  role_at_mark : (words : Words) (mark : Option Mark) → fold onto_mark None words ≡ mark
+      → role_of (point_of before (codes "m" ∷ w ∷ a ∷ words)) ≡ role_behind mark
+  role_at_mark words mark e =
+      m_role before (codes "m") w a words refl
+      ∙ ap role_behind (ap (λ (m : Option Mark). fold onto_mark m words) start ∙ e)
 
   s_judged : (rules_with constants).judge before (codes "m" ∷ w ∷ a ∷ []) (codes "s:") ≡ None
-  s_judged = rw (m_role before (codes "m") w a [] refl, no_w, no_a) refl
+  s_judged = rw (role_at_mark [] None refl) refl
 
   first_judged : (list : Words) (word : List ℕ) → AreUnmarked list → mark_of word ≡ None
       → (rules_with constants).judge before (codes "m" ∷ w ∷ a ∷ codes "s:" ∷ list) word
       ≡ term_word constants (names_at is_defining before []) (measured_in before) list word
   first_judged list word plain none =
-      let here = codes "m" ∷ w ∷ a ∷ codes "s:" ∷ list in
-      let mark = (plain (Some S)).0 in
-      let under = (plain (Some S)).1 is_first in
       rw (
-        m_role before (codes "m") w a (codes "s:" ∷ list) refl,
-        head_at before here,
-        mark_at before (codes "m") (w ∷ a ∷ codes "s:" ∷ list),
+        role_at_mark (codes "s:" ∷ list) (Some S) (last_unmarked (Some S) list plain),
         first_under (codes "s:" ∷ list),
-        mark,
-        under,
+        unmarked first_of (Some S) true (λ v free. rw free refl) list plain,
         none,
       ) refl
 
   firsts_end : (firsts : Words) → AreFirst firsts
       → (rules_with constants).lacks before (codes "m" ∷ w ∷ a ∷ firsts) ≡ None
   firsts_end firsts first = elim first.mark [
-    | inl none ↦ rw (m_role before (codes "m") w a firsts refl, no_w, no_a, none) refl
-    | inr some ↦ rw (m_role before (codes "m") w a firsts refl, no_w, no_a, some) refl
+    | inl none ↦ rw (role_at_mark firsts None none) refl
+    | inr some ↦ rw (role_at_mark firsts (Some S) some) refl
   ]
 
   t_judged : (firsts : Words) → AreFirst firsts
       → (rules_with constants).judge before (codes "m" ∷ w ∷ a ∷ firsts) (codes "t:") ≡ None
   t_judged firsts first = elim first.mark [
-    | inl none ↦ rw (m_role before (codes "m") w a firsts refl, no_w, no_a, none) refl
-    | inr some ↦ rw (m_role before (codes "m") w a firsts refl, no_w, no_a, some) refl
+    | inl none ↦ rw (role_at_mark firsts None none) refl
+    | inr some ↦ rw (role_at_mark firsts (Some S) some) refl
   ]
 
   t_mark : (firsts list : Words) → AreUnmarked list
       → fold onto_mark None (firsts ++ codes "t:" ∷ list) ≡ Some T
   t_mark firsts list plain =
-      fold-append onto_mark None firsts (codes "t:" ∷ list) ∙ (plain (Some T)).0
-
-  two_marks : (words : Words) → fold onto_mark None (w ∷ a ∷ words) ≡ fold onto_mark None words
-  two_marks words = ap (λ (mark : Option Mark). fold onto_mark mark words) start
-
-  t_last : (firsts list : Words) → AreUnmarked list
-      → fold onto_mark None (w ∷ a ∷ (firsts ++ codes "t:" ∷ list)) ≡ Some T
-  t_last firsts list plain =
-      two_marks (firsts ++ codes "t:" ∷ list) ∙ t_mark firsts list plain
+      fold-append onto_mark None firsts (codes "t:" ∷ list) ∙ last_unmarked (Some T) list plain
 
   second_list : (firsts list : Words) → AreFirst firsts → AreUnmarked list
       → second_signal (codes "m" ∷ w ∷ a ∷ (firsts ++ codes "t:" ∷ list)) ≡ list
   second_list firsts list first plain =
+      let all = unmarked second_of (Some T) true (λ v free. refl) list plain in
       second_under (firsts ++ codes "t:" ∷ list)
-      ∙ under-append is_second None firsts (codes "t:" ∷ list)
-      ∙ rw first.none ((plain (Some T)).1 is_second)
+      ∙ behind-append second_of None firsts (codes "t:" ∷ list)
+      ∙ elim first.mark [
+        | inl none ↦ rw (first.none, none) all
+        | inr some ↦ rw (first.none, some) all
+      ]
 
   second_judged : (firsts list : Words) (word : List ℕ) → AreFirst firsts → AreUnmarked list
       → (rules_with constants).judge before (codes "m" ∷ w ∷ a ∷ (firsts ++ codes "t:" ∷ list)) word
       ≡ term_word constants (names_at is_defining before []) (measured_in before) list word
   second_judged firsts list word first plain =
-      let words = firsts ++ codes "t:" ∷ list in
-      let here = codes "m" ∷ w ∷ a ∷ words in
-      let mark = t_last firsts list plain in
-      let second = second_list firsts list first plain in
       rw (
-        m_role before (codes "m") w a words refl,
-        head_at before here,
-        mark_at before (codes "m") (w ∷ a ∷ words),
-        second,
-        mark,
+        role_at_mark (firsts ++ codes "t:" ∷ list) (Some T) (t_mark firsts list plain),
+        second_list firsts list first plain,
       ) refl
 
   second_end : (firsts list : Words) → AreUnmarked list
       → (rules_with constants).lacks before (codes "m" ∷ w ∷ a ∷ (firsts ++ codes "t:" ∷ list))
       ≡ None
   second_end firsts list plain =
-      let mark = t_last firsts list plain in
-      rw (m_role before (codes "m") w a (firsts ++ codes "t:" ∷ list) refl, mark) refl
+      rw (role_at_mark (firsts ++ codes "t:" ∷ list) (Some T) (t_mark firsts list plain)) refl
 
   -- a signal behind its mark, where there is one
   first_clean : (words tail : Words)
@@ -471,7 +401,7 @@ command_clean constants half ns inputs before done (FixX q s) h permitted within
     let w = name_at ns q in
     let signal = signal_clean constants ns (names_at is_defining before []) (measured_in before)
     h.names before (codes "x" ∷ w ∷ []) (λ list word plain none.
-    correction_judged constants before (codes "x") w word list refl)
+    correction_judged constants before (codes "x") w list refl word)
     s.members s.constant [] are permits
     (correction_lacks constants before (codes "x") w (signal_words ns s) refl) in (
       record_clean ns inputs before done (codes "x") h room refl,
@@ -483,7 +413,7 @@ command_clean constants half ns inputs before done (FixZ q s) h permitted within
     let w = name_at ns q in
     let signal = signal_clean constants ns (names_at is_defining before []) (measured_in before)
     h.names before (codes "z" ∷ w ∷ []) (λ list word plain none.
-    correction_judged constants before (codes "z") w word list refl)
+    correction_judged constants before (codes "z") w list refl word)
     s.members s.constant [] are permits
     (correction_lacks constants before (codes "z") w (signal_words ns s) refl) in (
       record_clean ns inputs before done (codes "z") h room refl,

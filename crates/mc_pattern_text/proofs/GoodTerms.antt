@@ -1,7 +1,7 @@
 -- Terms with nothing against them: measured qubits, and constants where those may stand.
 use Rattle.std.proofs.Common.{◌≡◌, ℕ, Bool, true, false, not, ◌&&◌, List, [], ◌∷◌, ◌++◌}
-use Rattle.std.proofs.Common.{Option, Some, None, length, map, refl, sym, ap, ◌∙◌, nat_eq, nat_lt}
-use Rattle.std.proofs.Common.{if◌then◌else◌, inl, inr, ap₂, subst, ◌==◌}
+use Rattle.std.proofs.Common.{Option, None, length, map, refl, sym, ap, ◌∙◌, nat_eq, nat_lt}
+use Rattle.std.proofs.Common.{if◌then◌else◌, inl, inr, ap₂, subst}
 use Rattle.std.specs.List.{list_all, list_any}
 use Rattle.std.proofs.lemmas.Bool.{and_parts, eqb-true, or_cases}
 use Rattle.std.proofs.lemmas.List.Folds.{list_all-append}
@@ -12,9 +12,6 @@ use Rattle.mc_pattern.proofs.Members.{none_by}
 use Rattle.mc_model.specs.Numbers.{is_member}
 use Rattle.mc_model.specs.Names.{is_held}
 use Rattle.mc_text.specs.declared.head.Head.{Head}
-use Rattle.mc_text.specs.declared.point.Mark.{Mark}
-use Rattle.mc_text.specs.declared.point.Mark.TheVariants.{S, T, Colon}
-use Rattle.mc_text.specs.declared.head.Head.TheVariants as head
 use Rattle.mc_text.specs.declared.point.Point.{Point}
 use Rattle.mc_text.specs.Heads.{head_of}
 use Rattle.mc_text.specs.Points.{mark_of, first_point, next_point, point_of, last_head}
@@ -31,15 +28,14 @@ use Rattle.mc_text.proofs.Numbers.{place-held}
 use Rattle.mc_rows.specs.Rows.{is_one, has_one, named}
 use Rattle.mc_rows.proofs.RisingSets.{member_where}
 use Rattle.mc_rows.proofs.Sets.{name_no_one}
-use Rattle.mc_pattern_text.specs.Roles.{role_of, role_behind, is_defining}
-use Rattle.mc_pattern_text.specs.Value.{is_first, is_second, word_under, signal_in, added_first}
-use Rattle.mc_pattern_text.specs.Value.{added_second, first_signal, second_signal}
+use Rattle.mc_pattern_text.specs.Roles.{Role, first_term, second_term, term, role_of, is_defining}
+use Rattle.mc_pattern_text.specs.Value.{is_second, signal_in, first_of, second_of, added_by}
+use Rattle.mc_pattern_text.specs.Value.{first_signal, second_signal}
 use Rattle.mc_pattern_text.specs.Judge.{Known, known_at, measured_in, member_name, term_word}
 use Rattle.mc_pattern_text.specs.Judge.{judge_by, rules_with}
 use Rattle.mc_pattern_text.specs.Kept.{AreMarked}
-use Rattle.mc_pattern_text.proofs.Parts.{names_stay}
 use Rattle.mc_pattern_text.proofs.Marked.{marked-name}
-use Rattle.mc_pattern_text.proofs.Under.{under_none}
+use Rattle.mc_pattern_text.proofs.Parts.{names_stay}
 
 abbrev pub is_good : Bool → List (List ℕ) → List (List ℕ) → List ℕ → Bool
 is_good constants names measured word =
@@ -74,107 +70,52 @@ term_good constants names measured signal word clean =
     by_tests true false e f = by_member (rw (e, f) refl)
     by_tests false t e f = by_member (rw e refl)
 
--- a word behind the angle of a measurement
-under_good : (test : Option Mark → Bool) (mark : Option Mark) (p : List ℕ → Bool) (word : List ℕ)
-    (o : Option Mark) → mark_of word ≡ o → (o ≡ None → p word ≡ true)
-    → list_all p (word_under test mark word) ≡ true
-under_good test mark p word (Some m) e good = rw e refl
-under_good test mark p word None e good = by_test (test mark) refl
+-- what a word adds to the signals of its line
+first_good : (constants : Bool) (k : Known) (last : Option Head) (r : Role) (w : List ℕ)
+    → judge_by constants k last r w ≡ None
+    → AreGood constants k.names k.measured (first_of r w)
+first_good constants k last first_term w clean = by_test (is_second (mark_of w)) refl
   where
-    by_test : (t : Bool) → test mark ≡ t → list_all p (word_under test mark word) ≡ true
-    by_test true f = rw (e, f, good refl) refl
-    by_test false f = rw (e, f) refl
+    by_test : (t : Bool) → is_second (mark_of w) ≡ t
+        → AreGood constants k.names k.measured (first_of first_term w)
+    by_test true e = rw e refl
+    by_test false e =
+        let clean' : term_word constants k.names k.measured k.s w ≡ None = rw e at clean in
+        rw e (ap (λ (b : Bool). b && true) (term_good constants k.names k.measured k.s w clean'))
+first_good constants k last term w clean =
+    ap (λ (b : Bool). b && true) (term_good constants k.names k.measured k.s w clean)
+first_good constants k last _ w clean = refl
 
-behind_good : (constants : Bool) (test : Option Mark → Bool) (k : Known) (last : Option Head)
-    (mark : Option Mark) (word : List ℕ) → test None ≡ false → test (Some Colon) ≡ false
-    → judge_by constants k last (role_behind mark) word ≡ None
-    → AreGood constants k.names k.measured (word_under test mark word)
-behind_good constants test k last None word none colon clean =
-    rw (under_none test word none) refl
-behind_good constants test k last (Some S) word none colon clean =
-    under_good test (Some S) (is_good constants k.names k.measured) word (mark_of word) refl
-    (λ e.
-    let clean' : term_word constants k.names k.measured k.signal word ≡ None = rw e at clean in
-    term_good constants k.names k.measured k.signal word clean')
-behind_good constants test k last (Some T) word none colon clean =
-    under_good test (Some T) (is_good constants k.names k.measured) word (mark_of word) refl
-    (λ e. term_good constants k.names k.measured k.signal word clean)
-behind_good constants test k last (Some Colon) word none colon clean = absurd (cc clean)
-
--- the words that a word adds to the signals of its line
-first_good : (constants : Bool) (k : Known) (last : Option Head) (p : Point) (w : List ℕ)
-    → judge_by constants k last (role_of p) w ≡ None
-    → AreGood constants k.names k.measured (added_first p w)
-first_good constants k last p w clean =
-    by_tests (p.count == 0) (p.count == 1) (p.count == 2) p.head refl refl refl refl
-  where
-    by_tests : (a b c : Bool) (hd : Option Head) → (p.count == 0) ≡ a → (p.count == 1) ≡ b
-        → (p.count == 2) ≡ c → p.head ≡ hd
-        → AreGood constants k.names k.measured (added_first p w)
-    by_tests true b c hd e f g i = rw e refl
-    by_tests false true c hd e f g i = rw (e, f) refl
-    by_tests false false c (Some head.X) e f g i =
-        let clean' : term_word constants k.names k.measured k.signal w ≡ None =
-        rw (e, i, f) at clean in
-        rw (e, f, i)
-        (ap (λ (b : Bool). b && true) (term_good constants k.names k.measured k.signal w clean'))
-    by_tests false false c (Some head.Z) e f g i =
-        let clean' : term_word constants k.names k.measured k.signal w ≡ None =
-        rw (e, i, f) at clean in
-        rw (e, f, i)
-        (ap (λ (b : Bool). b && true) (term_good constants k.names k.measured k.signal w clean'))
-    by_tests false false true (Some head.M) e f g i = rw (e, f, i, g) refl
-    by_tests false false false (Some head.M) e f g i =
-        let clean' : judge_by constants k last (role_behind p.mark) w ≡ None =
-        rw (e, i, f, g) at clean in
-        rw (e, f, i, g) (behind_good constants is_first k last p.mark w refl refl clean')
-    by_tests false false true None e f g i = rw (e, f, i, g) refl
-    by_tests false false false None e f g i = rw (e, f, i, g) refl
-    by_tests false false true (Some _) e f g i = rw (e, f, i, g) refl
-    by_tests false false false (Some _) e f g i = rw (e, f, i, g) refl
-
-second_good : (constants : Bool) (k : Known) (last : Option Head) (p : Point) (w : List ℕ)
-    → judge_by constants k last (role_of p) w ≡ None
-    → AreGood constants k.names k.measured (added_second p w)
-second_good constants k last p w clean =
-    by_tests (p.count == 0) (p.count == 1) (p.count == 2) p.head refl refl refl refl
-  where
-    by_tests : (a b c : Bool) (hd : Option Head) → (p.count == 0) ≡ a → (p.count == 1) ≡ b
-        → (p.count == 2) ≡ c → p.head ≡ hd
-        → AreGood constants k.names k.measured (added_second p w)
-    by_tests true b c hd e f g i = rw e refl
-    by_tests false true c hd e f g i = rw (e, f) refl
-    by_tests false false true hd e f g i = rw (e, f, g) refl
-    by_tests false false false (Some head.M) e f g i =
-        let clean' : judge_by constants k last (role_behind p.mark) w ≡ None =
-        rw (e, i, f, g) at clean in
-        rw (e, f, g, i) (behind_good constants is_second k last p.mark w refl refl clean')
-    by_tests false false false None e f g i = rw (e, f, g, i) refl
-    by_tests false false false (Some _) e f g i = rw (e, f, g, i) refl
+second_good : (constants : Bool) (k : Known) (last : Option Head) (r : Role) (w : List ℕ)
+    → judge_by constants k last r w ≡ None
+    → AreGood constants k.names k.measured (second_of r w)
+second_good constants k last second_term w clean =
+    ap (λ (b : Bool). b && true) (term_good constants k.names k.measured k.t w clean)
+second_good constants k last _ w clean = refl
 
 -- and those of a line
-module _ (constants : Bool) (adds : Point → List ℕ → Words)
-    (good : (k : Known) (last : Option Head) (p : Point) (w : List ℕ)
-    → judge_by constants k last (role_of p) w ≡ None
-    → AreGood constants k.names k.measured (adds p w)) where
+module _ (constants : Bool) (adds : Role → List ℕ → Words)
+    (good : (k : Known) (last : Option Head) (r : Role) (w : List ℕ)
+    → judge_by constants k last r w ≡ None
+    → AreGood constants k.names k.measured (adds r w)) where
   words_good : (before : Lines) (h : List ℕ) (xs ws : Words) → is_defining (head_of h) ≡ false
       → CleanWords (rules_with constants) before (h ∷ xs) ws
       → AreGood constants (names_at is_defining before []) (measured_in before)
-      (words_by adds (point_of before (h ∷ xs)) ws)
+      (words_by (added_by adds) (point_of before (h ∷ xs)) ws)
   words_good before h xs [] gate clean = refl
   words_good before h xs (w ∷ ws) gate clean =
       let names = names_at is_defining before [] in
       let measured = measured_in before in
       let p = point_of before (h ∷ xs) in
-      let one = good (known_at before (h ∷ xs)) p.last p w clean.0 in
-      let one' : AreGood constants names measured (adds p w) =
+      let one = good (known_at before (h ∷ xs)) p.last (role_of p) w clean.0 in
+      let one' : AreGood constants names measured (adds (role_of p) w) =
       rw (names_stay is_defining before h xs gate) at one in
       let rest = subst
-      (λ (q : Point). AreGood constants names measured (words_by adds q ws))
+      (λ (q : Point). AreGood constants names measured (words_by (added_by adds) q ws))
       (point_of-more before (h ∷ xs) w)
       (words_good before h (xs ++ w ∷ []) ws gate clean.1) in
-      list_all-append (is_good constants names measured) (adds p w)
-      (words_by adds (next_point p w) ws)
+      list_all-append (is_good constants names measured) (adds (role_of p) w)
+      (words_by (added_by adds) (next_point p w) ws)
       ∙ ap₂ (λ (a b : Bool). a && b) one' rest
 
 module _ (constants : Bool) (before : Lines) (h : List ℕ) (ws : Words)
@@ -184,17 +125,17 @@ module _ (constants : Bool) (before : Lines) (h : List ℕ) (ws : Words)
       (first_signal (h ∷ ws))
   first_signal_good = subst
       (AreGood constants (names_at is_defining before []) (measured_in before))
-      (words_by-last added_first (λ p last w. refl) (last_head before)
+      (words_by-last (added_by first_of) (λ p last w. refl) (last_head before)
       (next_point (first_point None) h) ws)
-      (words_good constants added_first (first_good constants) before h [] ws gate clean)
+      (words_good constants first_of (first_good constants) before h [] ws gate clean)
 
   pub second_signal_good : AreGood constants (names_at is_defining before []) (measured_in before)
       (second_signal (h ∷ ws))
   second_signal_good = subst
       (AreGood constants (names_at is_defining before []) (measured_in before))
-      (words_by-last added_second (λ p last w. refl) (last_head before)
+      (words_by-last (added_by second_of) (λ p last w. refl) (last_head before)
       (next_point (first_point None) h) ws)
-      (words_good constants added_second (second_good constants) before h [] ws gate clean)
+      (words_good constants second_of (second_good constants) before h [] ws gate clean)
 
 -- a signal of such terms
 pub good_held : (constants : Bool) (names measured : List (List ℕ)) (words : Words)

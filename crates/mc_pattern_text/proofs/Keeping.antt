@@ -1,9 +1,8 @@
 -- What is kept of the words of a line goes on with one more word.
-use Rattle.std.proofs.Common.{◌≡◌, ℕ, zero, suc, ◌+◌, ◌<◌, List, [], ◌∷◌, ◌++◌, Bool, true, false}
-use Rattle.std.proofs.Common.{◌||◌, Option, Some, length, map, refl, sym, subst, ap}
+use Rattle.std.proofs.Common.{◌≡◌, ℕ, ◌+◌, ◌<◌, List, [], ◌∷◌, ◌++◌, Bool, true, false}
+use Rattle.std.proofs.Common.{◌||◌, Option, Some, map, refl, sym, subst, ap}
 use Rattle.std.proofs.Common.{◌∙◌, arith, ◌==◌, nat_eq}
-use Rattle.std.specs.List.{slice_get}
-use Rattle.std.proofs.lemmas.Bool.{eqb-true}
+use Rattle.std.proofs.lemmas.Bool.{eq-eqb, eqb-true}
 use Rattle.std.proofs.lemmas.List.{append-nil, map-append}
 use Rattle.std.proofs.lemmas.List.Folds.{list_all-append, list_any-append}
 use Rattle.mc_model.specs.Bits.{Bits}
@@ -18,16 +17,17 @@ use Rattle.mc_text.specs.Points.{point_of}
 use Rattle.mc_text.specs.Judged.{Words, Lines}
 use Rattle.mc_text.specs.Rules.{number_in}
 use Rattle.mc_text.specs.Lists.{operand_at, next_operand}
+use Rattle.mc_text.proofs.Going.{head_at}
 use Rattle.mc_text.proofs.Numbers.{held-place}
-use Rattle.mc_text.proofs.Kept.{count_at, held_more, place-more, operand_at-word}
+use Rattle.mc_text.proofs.Kept.{held_more, place-more, operand_at-word}
 use Rattle.mc_rows.specs.Rows.{named}
 use Rattle.mc_pattern_text.specs.declared.reader.Operands.{Operands}
-use Rattle.mc_pattern_text.specs.Roles.{is_entangling, is_measuring, is_command}
-use Rattle.mc_pattern_text.specs.Value.{first_signal, second_signal, added_first, added_second}
+use Rattle.mc_pattern_text.specs.Roles.{role_of, is_entangling, is_measuring, is_command}
+use Rattle.mc_pattern_text.specs.Value.{first_signal, second_signal, first_of, second_of}
 use Rattle.mc_pattern_text.specs.Kept.{AreMarked, IsSpelled, AreOperands}
 use Rattle.mc_pattern_text.specs.Kept.{Joins, Fills}
 use Rattle.mc_pattern_text.proofs.Sets.{set_stays}
-use Rattle.mc_pattern_text.proofs.Under.{first_signal-word, second_signal-word}
+use Rattle.mc_pattern_text.proofs.Under.{added-word}
 
 -- the names of a list under more names
 pub marked-more : (names more list : List (List ℕ)) (marks : Bits) → AreMarked names list marks
@@ -75,7 +75,7 @@ joined names words [] s s' are same = rw (append-nil words, same) are
 joined names words (w ∷ more) s s' are joins = joins words are
 
 -- the n-th word is the one that comes, or stood there before
-pub operand_gate : (n : ℕ) (test : Option Head → Bool) (here : Words) (a : List ℕ)
+operand_gate : (n : ℕ) (test : Option Head → Bool) (here : Words) (a : List ℕ)
     → operand_at n test here ≡ Some a → test (head_in here) ≡ true
 operand_gate n test [] a e = absurd (cc e)
 operand_gate n test (h ∷ words) a e = by_test (test (head_of h)) refl
@@ -84,25 +84,10 @@ operand_gate n test (h ∷ words) a e = by_test (test (head_of h)) refl
     by_test true f = refl
     by_test false f = let e' = rw f at e in absurd (cc e')
 
-get_within : (words : Words) (n : ℕ) (a : List ℕ) → slice_get words n ≡ Some a → n < length words
-get_within [] n a e = absurd (cc e)
-get_within (w ∷ words) zero a e = omega arith
-get_within (w ∷ words) (suc n) a e = let rest = get_within words n a e in omega arith
-
-operand_within : (n : ℕ) (test : Option Head → Bool) (before : Lines) (here : Words) (a : List ℕ)
-    → n < 3 → operand_at n test here ≡ Some a → n + 1 < (point_of before here).count
-operand_within n test before [] a few e = absurd (cc e)
-operand_within n test before (h ∷ words) a few e =
-    let gate = operand_gate n test (h ∷ words) a e in
-    let get : slice_get words n ≡ Some a = rw gate at e in
-    let within = get_within words n a get in
-    let count = count_at before (h ∷ words) in
-    omega arith
-
-pub operand_cases : (n : ℕ) (test : Option Head → Bool) (before : Lines) (here : Words) (p : Point)
+operand_cases : (n : ℕ) (test : Option Head → Bool) (before : Lines) (here : Words) (p : Point)
     (word : List ℕ) (P : List ℕ → Type 0) → n < 3 → p ≡ point_of before here
     → (p.count ≡ n + 1 → test p.head ≡ true → P word)
-    → ((a : List ℕ) → n + 1 < p.count → operand_at n test here ≡ Some a → P a)
+    → ((a : List ℕ) → ¬ (p.count ≡ n + 1) → operand_at n test here ≡ Some a → P a)
     → (a : List ℕ) → operand_at n test (here ++ word ∷ []) ≡ Some a → P a
 operand_cases n test before here p word P few at comes stood a e =
     by_tests (p.count == n + 1) (test p.head) refl refl
@@ -117,39 +102,33 @@ operand_cases n test before here p word P few at comes stood a e =
         subst P same (comes (eqb-true p.count (n + 1) one) gate)
     by_tests true false one gate =
         let is : operand_at n test here ≡ Some a = rw (one, gate) at next in
-        let within = operand_within n test before here a few is in
-        let within' : n + 1 < p.count = rw at within in
-        stood a within' is
+        let head : p.head ≡ head_in here = rw at (head_at before here) in
+        absurd (cc (operand_gate n test here a is, ap test head, gate))
     by_tests false s one gate =
         let is : operand_at n test here ≡ Some a = rw one at next in
-        let within = operand_within n test before here a few is in
-        let within' : n + 1 < p.count = rw at within in
-        stood a within' is
+        stood a (λ same. absurd (cc (eq-eqb p.count (n + 1) same, one))) is
 
 pub operands_more : {half : ℕ} (names more : List (List ℕ)) (o o' : Operands half)
     (before : Lines) (here : Words) (p : Point) (word : List ℕ) → p ≡ point_of before here
     → AreOperands names o here → Fills (names ++ more) o o' p word
     → AreOperands (names ++ more) o' (here ++ word ∷ [])
 operands_more {half} names more o o' before here p word at are fills =
-    let first = first_signal-word before here p word at in
-    let second = second_signal-word before here p word at in
-    let same : 1 < p.count → o'.first ≡ o.first = λ later. fills.same_first (λ z. omega arith) in
+    let first = added-word first_of before here p word at in
+    let second = added-word second_of before here p word at in
     record {
       place = operand_cases 0 is_command before here p word
           (λ a. place_of (names ++ more) a ≡ Some o'.first) (omega arith) at fills.place
-          (λ a later is. rw (same later) (place-more names more a o.first (are.place a is)));
+          (λ a later is. rw (fills.same_first later) (place-more names more a o.first (are.place a is)));
       second = operand_cases 1 is_entangling before here p word
           (λ b. place_of (names ++ more) b ≡ Some o'.second) (omega arith) at fills.second
-          (λ b later is.
-          let same_second : o'.second ≡ o.second = fills.same_second (λ z. omega arith) in
-          rw same_second (place-more names more b o.second (are.second b is)));
+          (λ b later is. rw (fills.same_second later) (place-more names more b o.second (are.second b is)));
       angle = operand_cases 1 is_measuring before here p word (λ b. o'.angle ≡ angle_of half b)
           (omega arith) at fills.angle
-          (λ b later is. fills.same_angle (λ z. omega arith) ∙ are.angle b is);
+          (λ b later is. fills.same_angle later ∙ are.angle b is);
       s = rw first
-          (joined (names ++ more) (first_signal here) (added_first p word) o.s o'.s
+          (joined (names ++ more) (first_signal here) (first_of (role_of p) word) o.s o'.s
           (spelled-more names more (first_signal here) o.s are.s) fills.s);
       t = rw second
-          (joined (names ++ more) (second_signal here) (added_second p word) o.t o'.t
+          (joined (names ++ more) (second_signal here) (second_of (role_of p) word) o.t o'.t
           (spelled-more names more (second_signal here) o.t are.t) fills.t);
     }

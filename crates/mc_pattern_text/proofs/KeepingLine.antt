@@ -118,14 +118,14 @@ pub line_kept : {half : ℕ} (k k' : Reader half) (before : Lines) (here : Words
     → IsKept k before here → p ≡ point_of before here → Ends k k' p
     → (lacks_by (known_of k before here) (role_of p) ≡ None) × IsKept k' (before ++ here ∷ []) []
 line_kept k k' before [] p kept e ends =
-    let clean = ends.clean (measured_in before) (names_at is_output before []) [] None 0
+    let clean = ends.clean (measured_in before) (names_at is_output before []) [] [] None 0
     kept.measured kept.outputs in
     let clean' = rw e at clean in
     absurd (cc clean')
 line_kept {half} k k' before (h ∷ words) p kept e ends =
     let here = h ∷ words in
     let known = known_of k before here in
-    let clean = ends.clean known.measured known.listed known.signal known.operand known.commands
+    let clean = ends.clean known.measured known.listed known.s known.t known.operand known.commands
     kept.measured kept.outputs in
     let head : p.head ≡ head_of h = rw (e, head_at before here) refl in
     let listed = names_at-line is_output before here in

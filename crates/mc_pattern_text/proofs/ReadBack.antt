@@ -29,6 +29,7 @@ use Rattle.mc_pattern.specs.Typed.{IsTyped, AllTyped}
 use Rattle.mc_text.specs.declared.head.Head.{Head}
 use Rattle.mc_text.specs.declared.point.Mark.{Mark}
 use Rattle.mc_text.specs.declared.point.Mark.TheVariants.{S, T}
+use Rattle.mc_text.specs.Points.{mark_of}
 use Rattle.mc_text.specs.Headers.{header_words, version_word, turn_words}
 use Rattle.mc_text.specs.Judged.{Words, Lines, words_of, section_lines}
 use Rattle.mc_text.specs.Lists.{names_in, names_at}
@@ -38,7 +39,8 @@ use Rattle.mc_text.proofs.Naming.{number-name_at, numbers-name_at, is_name-name_
 use Rattle.mc_text.proofs.Naming.{number_written}
 use Rattle.mc_text.proofs.Written.{is_written, is_written_line}
 use Rattle.mc_pattern_text.specs.Roles.{is_defining, is_input, is_output}
-use Rattle.mc_pattern_text.specs.Value.{is_first, is_second, first_signal, second_signal, signal_in}
+use Rattle.mc_pattern_text.specs.Roles.{Role, opening, first_term, second_term, role_behind}
+use Rattle.mc_pattern_text.specs.Value.{first_of, second_of, first_signal, second_signal, signal_in}
 use Rattle.mc_pattern_text.specs.Value.{Spelled, spelled_m}
 use Rattle.mc_pattern_text.specs.Value.{spelled_command, spelled_commands, command_by, pattern_of}
 use Rattle.mc_pattern_text.specs.Judge.{pattern_rules}
@@ -50,9 +52,10 @@ use Rattle.mc_pattern_text.proofs.NamedCommands.{pattern_named}
 use Rattle.mc_pattern_text.proofs.NamedSignals.{names_written, words_back}
 use Rattle.mc_pattern_text.proofs.CleanCommands.{IsAfter}
 use Rattle.mc_rows.specs.Written.{set_words}
-use Rattle.mc_pattern_text.proofs.CleanLines.{AreUnmarked, signal_unmarked}
-use Rattle.mc_pattern_text.proofs.CleanLines.{first_under, second_under, decimal_no_mark}
-use Rattle.mc_pattern_text.proofs.Under.{words_under, under-append, correction_behind}
+use Rattle.mc_pattern_text.proofs.CleanLines.{signal_unmarked, first_under, second_under}
+use Rattle.mc_pattern_text.proofs.CleanLines.{decimal_no_mark}
+use Rattle.mc_pattern_text.proofs.Under.{AreUnmarked, behind, behind-append, correction_behind}
+use Rattle.mc_pattern_text.proofs.Under.{last_unmarked, unmarked}
 use Rattle.mc_pattern_text.proofs.CleanText.{command_after, inputs_after, pattern_clean}
 
 -- the canonical lines can be written
@@ -157,26 +160,33 @@ pattern_written half p h permitted =
     ) refl
 
 -- the commands that their lines spell
-if_both : (t : Bool) → let none : Words = [] in none ≡ (if t then none else none)
-if_both true = refl
-if_both false = refl
+if_none : (t : Bool) → let none : Words = [] in none ≡ (if t then none else none)
+if_none true = refl
+if_none false = refl
 
-s_under : (test : Option Mark → Bool) (mark : Option Mark) (words : Words) → AreUnmarked words
-    → words_under test mark (marked (codes "s:") words) ≡ (if test (Some S) then words else [])
-s_under test mark [] plain = if_both (test (Some S))
-s_under test mark (word ∷ words) plain = (plain (Some S)).1 test
+-- the terms of one signal, or of both, where `adds` picks those behind its mark
+module _ (adds : Role → List ℕ → Words) (s t : Bool)
+    (firsts : (w : List ℕ) → mark_of w ≡ None → adds first_term w ≡ (if s then w ∷ [] else []))
+    (seconds : (w : List ℕ) → mark_of w ≡ None → adds second_term w ≡ (if t then w ∷ [] else [])) where
+  t_behind : (mark : Option Mark) → adds (role_behind mark) (codes "t:") ≡ [] → (ts : Words)
+      → AreUnmarked ts → behind adds mark (marked (codes "t:") ts) ≡ (if t then ts else [])
+  t_behind mark none [] plain = if_none t
+  t_behind mark none (w ∷ ts) plain = rw none (unmarked adds (Some T) t seconds (w ∷ ts) plain)
 
-t_under : (test : Option Mark → Bool) (mark : Option Mark) (words : Words) → AreUnmarked words
-    → words_under test mark (marked (codes "t:") words) ≡ (if test (Some T) then words else [])
-t_under test mark [] plain = if_both (test (Some T))
-t_under test mark (word ∷ words) plain = (plain (Some T)).1 test
-
-both_under : (test : Option Mark → Bool) (ss ts : Words) → AreUnmarked ss → AreUnmarked ts
-    → words_under test None (marked (codes "s:") ss ++ marked (codes "t:") ts)
-    ≡ (if test (Some S) then ss else []) ++ (if test (Some T) then ts else [])
-both_under test ss ts first second =
-    under-append test None (marked (codes "s:") ss) (marked (codes "t:") ts)
-    ∙ ap₂ (λ (xs ys : Words). xs ++ ys) (s_under test None ss first) (t_under test _ ts second)
+  both_behind : adds opening (codes "s:") ≡ [] → adds opening (codes "t:") ≡ []
+      → adds first_term (codes "t:") ≡ [] → (ss ts : Words) → AreUnmarked ss → AreUnmarked ts
+      → behind adds None (marked (codes "s:") ss ++ marked (codes "t:") ts)
+      ≡ (if s then ss else []) ++ (if t then ts else [])
+  both_behind a b c [] ts plain plain' =
+      t_behind None b ts plain'
+      ∙ ap (λ (xs : Words). xs ++ (if t then ts else [])) (if_none s)
+  both_behind a b c (w ∷ ss) ts plain plain' =
+      rw a
+      (behind-append adds (Some S) (w ∷ ss) (marked (codes "t:") ts)
+      ∙ ap₂ (λ (xs ys : Words). xs ++ ys) (unmarked adds (Some S) s firsts (w ∷ ss) plain)
+      (ap (λ (mark : Option Mark). behind adds mark (marked (codes "t:") ts))
+      (last_unmarked (Some S) (w ∷ ss) plain)
+      ∙ t_behind (Some S) c ts plain'))
 
 meas_back : (half : ℕ) (ns : List Name) (q a : ℕ) (s t : Signal) → AreNames ns
     → IsTrue (is_permitted half) → IsNamed (length ns) (Meas q a s t) → IsTyped half (Meas q a s t)
@@ -192,10 +202,12 @@ meas_back half ns q a s t valid permitted named typed =
     let t_plain = signal_unmarked ns t.members t.constant valid named.2 in
     let words = marked (codes "s:") (signal_words ns s) ++ marked (codes "t:") (signal_words ns t) in
     let first = first_under false [] w (decimal a) no_w no_a words
-    ∙ both_under is_first (signal_words ns s) (signal_words ns t) s_plain t_plain
+    ∙ both_behind first_of true false (λ v free. rw free refl) (λ v free. refl) refl refl refl
+    (signal_words ns s) (signal_words ns t) s_plain t_plain
     ∙ append-nil (signal_words ns s) in
     let second = second_under false [] w (decimal a) no_w no_a words
-    ∙ both_under is_second (signal_words ns s) (signal_words ns t) s_plain t_plain in
+    ∙ both_behind second_of false true (λ v free. refl) (λ v free. refl) refl refl refl
+    (signal_words ns s) (signal_words ns t) s_plain t_plain in
     let number = number-name_at ns q valid.distinct named.0 in
     let angle = (angle-decimal half a permitted typed.0).1 in
     let s_back = words_back ns s valid typed.1 named.1 in

@@ -1,11 +1,12 @@
 -- The words of a line's signals: one more word, and those behind the marks of a measurement.
 use Rattle.std.proofs.Common.{◌≡◌, ℕ, ◌<◌, ◌≤◌, List, [], ◌∷◌, ◌++◌, Bool, true, false, Option, Some}
-use Rattle.std.proofs.Common.{None, fold, refl, sym, ap, ap₂, ◌∙◌, append_assoc, arith, ◌+◌, nat_lt}
-use Rattle.std.proofs.Common.{ne_eqb, if◌then◌else◌, is_some}
+use Rattle.std.proofs.Common.{None, fold, refl, sym, ap, ap₂, ◌∙◌, append_assoc, arith, ◌+◌}
+use Rattle.std.proofs.Common.{nat_lt, ne_eqb, if◌then◌else◌}
+use Rattle.std.specs.List.{AllByRecursion}
 use Rattle.std.specs.Option.{option_or}
 use Rattle.std.proofs.lemmas.Bool.Decides.{nat_tests}
 use Rattle.mc_text.specs.declared.head.Head.{Head}
-use Rattle.mc_text.specs.declared.head.Head.TheVariants.{M}
+use Rattle.mc_text.specs.declared.head.Head.TheVariants.{M, X, Z}
 use Rattle.mc_text.specs.declared.point.Mark.{Mark}
 use Rattle.mc_text.specs.declared.point.Point.{Point}
 use Rattle.mc_text.specs.Heads.{head_of}
@@ -14,31 +15,25 @@ use Rattle.mc_text.specs.Judged.{Words, Lines}
 use Rattle.mc_text.specs.Places.{words_by}
 use Rattle.mc_text.proofs.Going.{not_first}
 use Rattle.mc_text.proofs.Places.{words_by-word}
-use Rattle.mc_pattern_text.specs.Roles.{is_measuring, is_correcting}
-use Rattle.mc_pattern_text.specs.Value.{is_first, is_second, word_under, added_first, added_second}
-use Rattle.mc_pattern_text.specs.Value.{first_signal, second_signal}
+use Rattle.mc_pattern_text.specs.Roles.{Role, term, role_of, role_behind, is_measuring, is_correcting}
+use Rattle.mc_pattern_text.specs.Value.{first_of, second_of, added_by, first_signal, second_signal}
 
-pub first_signal-word : (before : Lines) (here : Words) (p : Point) (word : List ℕ)
-    → p ≡ point_of before here
-    → first_signal (here ++ word ∷ []) ≡ first_signal here ++ added_first p word
-first_signal-word before here p word at =
-    words_by-word added_first (λ q last w. refl) before here p word at
-
-pub second_signal-word : (before : Lines) (here : Words) (p : Point) (word : List ℕ)
-    → p ≡ point_of before here
-    → second_signal (here ++ word ∷ []) ≡ second_signal here ++ added_second p word
-second_signal-word before here p word at =
-    words_by-word added_second (λ q last w. refl) before here p word at
+pub added-word : (adds : Role → List ℕ → Words) (before : Lines) (here : Words) (p : Point)
+    (word : List ℕ) → p ≡ point_of before here
+    → words_by (added_by adds) (first_point None) (here ++ word ∷ [])
+    ≡ words_by (added_by adds) (first_point None) here ++ adds (role_of p) word
+added-word adds before here p word at =
+    words_by-word (added_by adds) (λ q last w. refl) before here p word at
 
 -- the last mark
 abbrev pub onto_mark : Option Mark → List ℕ → Option Mark
 onto_mark mark word = option_or (mark_of word) mark
 
 -- what stands before a later word
-pub next_mark : (p : Point) (w : List ℕ) → 0 < p.count → (next_point p w).mark ≡ onto_mark p.mark w
+next_mark : (p : Point) (w : List ℕ) → 0 < p.count → (next_point p w).mark ≡ onto_mark p.mark w
 next_mark p w some = rw (ne_eqb p.count 0 (λ (e : p.count ≡ 0). omega arith)) refl
 
-pub next_count : (p : Point) (w : List ℕ) (k : ℕ) → 0 < p.count → k ≤ p.count
+next_count : (p : Point) (w : List ℕ) (k : ℕ) → 0 < p.count → k ≤ p.count
     → k ≤ (next_point p w).count
 next_count p w k some few =
     rw (ne_eqb p.count 0 (λ (e : p.count ≡ 0). omega arith)) (stays p.count few)
@@ -58,101 +53,105 @@ pub mark_at : (before : Lines) (h : List ℕ) (words : Words)
 mark_at before h words =
     mark_from (next_point (first_point (last_head before)) h) words (omega arith)
 
--- those of a list with a mark before it that passes the test
-abbrev pub words_under : (Option Mark → Bool) → Option Mark → Words → Words
-words_under test mark [] = []
-words_under test mark (word ∷ words) =
-    word_under test mark word ++ words_under test (onto_mark mark word) words
+-- what words add that stand behind the angle of a measurement, where this is the last mark
+abbrev pub behind : (Role → List ℕ → Words) → Option Mark → Words → Words
+behind adds mark [] = []
+behind adds mark (word ∷ words) =
+    adds (role_behind mark) word ++ behind adds (onto_mark mark word) words
 
--- behind others
-pub under-append : (test : Option Mark → Bool) (mark : Option Mark) (xs ys : Words)
-    → words_under test mark (xs ++ ys)
-    ≡ words_under test mark xs ++ words_under test (fold onto_mark mark xs) ys
-under-append test mark [] ys = refl
-under-append test mark (x ∷ xs) ys =
-    rw (under-append test (onto_mark mark x) xs ys)
-    (sym (append_assoc (word_under test mark x) (words_under test (onto_mark mark x) xs)
-    (words_under test (fold onto_mark (onto_mark mark x) xs) ys)))
+pub behind-append : (adds : Role → List ℕ → Words) (mark : Option Mark) (xs ys : Words)
+    → behind adds mark (xs ++ ys)
+    ≡ behind adds mark xs ++ behind adds (fold onto_mark mark xs) ys
+behind-append adds mark [] ys = refl
+behind-append adds mark (x ∷ xs) ys =
+    rw (behind-append adds (onto_mark mark x) xs ys)
+    (sym (append_assoc (adds (role_behind mark) x) (behind adds (onto_mark mark x) xs)
+    (behind adds (fold onto_mark (onto_mark mark x) xs) ys)))
 
--- nothing is under no mark
-pub under_none : (test : Option Mark → Bool) (word : List ℕ) → test None ≡ false
-    → word_under test None word ≡ []
-under_none test word e = by_mark (is_some (mark_of word))
-  where
-    by_mark : (t : Bool) → (if t then [] else (if test None then word ∷ [] else [])) ≡ []
-    by_mark true = refl
-    by_mark false = rw e refl
-
--- the signals of a measurement, behind its angle
-first_by : (p : Point) (word : List ℕ) → p.head ≡ Some M → 3 ≤ p.count
-    → added_first p word ≡ word_under is_first p.mark word
-first_by p word g le =
+pub role_behind_angle : (p : Point) → p.head ≡ Some M → 3 ≤ p.count → role_of p ≡ role_behind p.mark
+role_behind_angle p g le =
     rw (
-      g,
       ne_eqb p.count 0 (λ e. omega arith),
+      g,
       ne_eqb p.count 1 (λ e. omega arith),
       ne_eqb p.count 2 (λ e. omega arith),
     ) refl
 
-second_by : (p : Point) (word : List ℕ) → p.head ≡ Some M → 3 ≤ p.count
-    → added_second p word ≡ word_under is_second p.mark word
-second_by p word g le =
-    rw (
-      g,
-      ne_eqb p.count 0 (λ e. omega arith),
-      ne_eqb p.count 1 (λ e. omega arith),
-      ne_eqb p.count 2 (λ e. omega arith),
-    ) refl
-
-under_from : (adds : Point → List ℕ → Words) (test : Option Mark → Bool)
-    → ((p : Point) (w : List ℕ) → p.head ≡ Some M → 3 ≤ p.count
-    → adds p w ≡ word_under test p.mark w)
-    → (p : Point) (ws : Words) → p.head ≡ Some M → 3 ≤ p.count
-    → words_by adds p ws ≡ words_under test p.mark ws
-under_from adds test by p [] g le = refl
-under_from adds test by p (w ∷ ws) g le =
+behind_from : (adds : Role → List ℕ → Words) (p : Point) (ws : Words) → p.head ≡ Some M
+    → 3 ≤ p.count → words_by (added_by adds) p ws ≡ behind adds p.mark ws
+behind_from adds p [] g le = refl
+behind_from adds p (w ∷ ws) g le =
     let some : 0 < p.count = omega arith in
-    ap₂ (λ (xs ys : Words). xs ++ ys) (by p w g le)
-    (under_from adds test by (next_point p w) ws ((not_first p w some).0 ∙ g)
-    (next_count p w 3 some le)
-    ∙ ap (λ (mark : Option Mark). words_under test mark ws) (next_mark p w some))
+    ap₂ (λ (xs ys : Words). xs ++ ys) (ap (λ (r : Role). adds r w) (role_behind_angle p g le))
+    (behind_from adds (next_point p w) ws ((not_first p w some).0 ∙ g) (next_count p w 3 some le)
+    ∙ ap (λ (mark : Option Mark). behind adds mark ws) (next_mark p w some))
 
 module _ (h a b : List ℕ) (ws : Words) (g : head_of h ≡ Some M) where
-  abbrev behind : Point
-  behind =
-      record { last = None; head = Some M; count = 3; mark = fold onto_mark None (a ∷ b ∷ []) }
+  abbrev third : Point
+  third = record { last = None; head = Some M; count = 3; mark = fold onto_mark None (a ∷ b ∷ []) }
 
   pub first_behind : first_signal (h ∷ a ∷ b ∷ ws)
-      ≡ words_under is_first (fold onto_mark None (a ∷ b ∷ [])) ws
-  first_behind =
-      rw g (under_from added_first is_first first_by behind ws refl (omega arith))
+      ≡ behind first_of (fold onto_mark None (a ∷ b ∷ [])) ws
+  first_behind = rw g (behind_from first_of third ws refl (omega arith))
 
   pub second_behind : second_signal (h ∷ a ∷ b ∷ ws)
-      ≡ words_under is_second (fold onto_mark None (a ∷ b ∷ [])) ws
-  second_behind =
-      rw g (under_from added_second is_second second_by behind ws refl (omega arith))
+      ≡ behind second_of (fold onto_mark None (a ∷ b ∷ [])) ws
+  second_behind = rw g (behind_from second_of third ws refl (omega arith))
+
+-- words without marks
+abbrev pub AreUnmarked : Words → Type 0
+AreUnmarked words = AllByRecursion (λ word. mark_of word ≡ None) words
+
+pub last_unmarked : (mark : Option Mark) (words : Words) → AreUnmarked words
+    → fold onto_mark mark words ≡ mark
+last_unmarked mark [] plain = refl
+last_unmarked mark (w ∷ words) plain = rw plain.0 (last_unmarked mark words plain.1)
+
+pub unmarked : (adds : Role → List ℕ → Words) (mark : Option Mark) (t : Bool)
+    → ((w : List ℕ) → mark_of w ≡ None → adds (role_behind mark) w ≡ (if t then w ∷ [] else []))
+    → (words : Words) → AreUnmarked words → behind adds mark words ≡ (if t then words else [])
+unmarked adds mark true one [] plain = refl
+unmarked adds mark false one [] plain = refl
+unmarked adds mark true one (w ∷ words) plain =
+    rw (one w plain.0, plain.0, unmarked adds mark true one words plain.1) refl
+unmarked adds mark false one (w ∷ words) plain =
+    rw (one w plain.0, plain.0, unmarked adds mark false one words plain.1) refl
 
 -- the signal of a correction
-behind_from : (p : Point) (ws : Words) → is_correcting p.head ≡ true → 2 ≤ p.count
-    → words_by added_first p ws ≡ ws
-behind_from p [] g le = refl
-behind_from p (w ∷ ws) g le =
+pub correction_role : (p : Point) → is_correcting p.head ≡ true → 2 ≤ p.count → role_of p ≡ term
+correction_role p gate le = by_head p.head refl gate
+  where
+    by_head : (hd : Option Head) → p.head ≡ hd → is_correcting hd ≡ true → role_of p ≡ term
+    by_head None g e = absurd (cc e)
+    by_head (Some X) g e =
+        rw (ne_eqb p.count 0 (λ z. omega arith), g, ne_eqb p.count 1 (λ z. omega arith)) refl
+    by_head (Some Z) g e =
+        rw (ne_eqb p.count 0 (λ z. omega arith), g, ne_eqb p.count 1 (λ z. omega arith)) refl
+    by_head (Some _) g e = absurd (cc e)
+
+terms_from : (p : Point) (ws : Words) → is_correcting p.head ≡ true → 2 ≤ p.count
+    → words_by (added_by first_of) p ws ≡ ws
+terms_from p [] g le = refl
+terms_from p (w ∷ ws) g le =
     let some : 0 < p.count = omega arith in
-    let one : added_first p w ≡ w ∷ [] =
-    rw (
-      g,
-      ne_eqb p.count 0 (λ e. omega arith),
-      ne_eqb p.count 1 (λ e. omega arith),
-    ) refl in
-    let head : is_correcting (next_point p w).head ≡ true =
-    ap is_correcting (not_first p w some).0 ∙ g in
-    ap₂ (λ (xs ys : Words). xs ++ ys) one
-    (behind_from (next_point p w) ws head (next_count p w 2 some le))
+    ap₂ (λ (xs ys : Words). xs ++ ys) (ap (λ (r : Role). first_of r w) (correction_role p g le))
+    (terms_from (next_point p w) ws (ap is_correcting (not_first p w some).0 ∙ g)
+    (next_count p w 2 some le))
 
 pub correction_behind : (h a : List ℕ) (ws : Words) → is_correcting (head_of h) ≡ true
     → first_signal (h ∷ a ∷ ws) ≡ ws
-correction_behind h a ws g =
-    behind_from (fold next_point (first_point None) (h ∷ a ∷ [])) ws g (omega arith)
+correction_behind h a ws gate = by_head (head_of h) refl gate
+  where
+    by_head : (hd : Option Head) → head_of h ≡ hd → is_correcting hd ≡ true
+        → first_signal (h ∷ a ∷ ws) ≡ ws
+    by_head None g e = absurd (cc e)
+    by_head (Some X) g e =
+        rw g (terms_from (record { last = None; head = Some X; count = 2; mark = fold onto_mark None (a ∷ []) }) ws
+        refl (omega arith))
+    by_head (Some Z) g e =
+        rw g (terms_from (record { last = None; head = Some Z; count = 2; mark = fold onto_mark None (a ∷ []) }) ws
+        refl (omega arith))
+    by_head (Some _) g e = absurd (cc e)
 
 -- record words by their tests
 pub measuring_head : (h : Option Head) → is_measuring h ≡ true → h ≡ Some M

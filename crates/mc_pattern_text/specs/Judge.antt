@@ -9,7 +9,6 @@ use Rattle.mc_text.specs.declared.head.Head.{Head}
 use Rattle.mc_text.specs.declared.fault.Fault.TheVariants.{NotFixed, LineEnds, Surplus, Measured}
 use Rattle.mc_text.specs.declared.fault.Fault.TheVariants.{SameOperand, NotMeasured, ListedTwice}
 use Rattle.mc_text.specs.declared.fault.Fault.TheVariants.{OutputsLack}
-use Rattle.mc_text.specs.declared.point.Point.{Point}
 use Rattle.mc_text.specs.Heads.{head_of}
 use Rattle.mc_text.specs.Points.{mark_of, point_of}
 use Rattle.mc_text.specs.Judged.{Judgement, Words, Lines, Rules}
@@ -18,7 +17,8 @@ use Rattle.mc_text.specs.Rules.{angle_word}
 use Rattle.mc_text.specs.Lists.{names_at, operand_at, operands_at}
 use Rattle.mc_rows.specs.Rows.{is_one, has_one, named}
 use Rattle.mc_pattern_text.specs.Roles.{Role, record_word, input, prepared, operand, second, angle}
-use Rattle.mc_pattern_text.specs.Roles.{opening, first_term, term, output, surplus, may_follow}
+use Rattle.mc_pattern_text.specs.Roles.{opening, first_term, second_term, term, output, surplus}
+use Rattle.mc_pattern_text.specs.Roles.{may_follow}
 use Rattle.mc_pattern_text.specs.Roles.{role_of, is_defining, is_command, has_operand, is_measuring}
 use Rattle.mc_pattern_text.specs.Roles.{is_output}
 use Rattle.mc_pattern_text.specs.Value.{is_first, is_second, first_signal, second_signal}
@@ -28,19 +28,16 @@ use Rattle.mc_pattern_text.specs.Value.{spelled_commands}
 abbrev pub measured_in : Lines → List (List ℕ)
 measured_in before = operands_at 0 is_measuring before
 
--- whether a further word stands in the second signal of its line
-abbrev pub is_in_second : Point → Bool
-is_in_second p = is_measuring p.head && is_second p.mark
-
 -- what a word is judged by: the names that are defined, that were measured in earlier lines and
--- that are listed as outputs, the first operand of its line, the words before it in its signal, and
--- the number of commands in the lines before
+-- that are listed as outputs, the first operand of its line, the words before it in the signals of
+-- its line, and the number of commands in the lines before
 pub record Known : Type 0 where
   pub names : List (List ℕ)
   pub measured : List (List ℕ)
   pub listed : List (List ℕ)
   pub operand : Option (List ℕ)
-  pub signal : Words
+  pub s : Words
+  pub t : Words
   pub commands : ℕ
 
 abbrev pub known_at : Lines → Words → Known
@@ -49,8 +46,8 @@ known_at before here = record {
   measured = measured_in before;
   listed = names_at is_output before here;
   operand = operand_at 0 has_operand here;
-  signal =
-      if is_in_second (point_of before here) then second_signal here else first_signal here;
+  s = first_signal here;
+  t = second_signal here;
   commands = length (spelled_commands before);
 }
 
@@ -113,8 +110,9 @@ judge_by constants k last second word = second_name k.names k.measured k.operand
 judge_by constants k last angle word = angle_word word
 judge_by constants k last opening word = opening_word word
 judge_by constants k last first_term word =
-    first_term_word constants k.names k.measured k.signal word
-judge_by constants k last term word = term_word constants k.names k.measured k.signal word
+    first_term_word constants k.names k.measured k.s word
+judge_by constants k last second_term word = term_word constants k.names k.measured k.t word
+judge_by constants k last term word = term_word constants k.names k.measured k.s word
 judge_by constants k last output word = output_name k.names k.measured k.listed word
 judge_by constants k last surplus word = broken ((true, Surplus) ∷ [])
 

@@ -1,6 +1,6 @@
 -- What a reader keeps of a pattern's lines, and what a word and the end of a line do to it.
 use Rattle.std.specs.Prelude.{◌≡◌, ℕ, ◌+◌, ◌<◌, List, [], ◌∷◌, ◌++◌, Bool, true}
-use Rattle.std.specs.Prelude.{false, map, length, if◌then◌else◌}
+use Rattle.std.specs.Prelude.{false, map, length}
 use Rattle.std.specs.Prelude.{Option, None, Some, option_to_list}
 use Rattle.std.specs.List.{list_all}
 use Rattle.mc_angle.specs.Angle.{angle_of}
@@ -24,10 +24,9 @@ use Rattle.mc_pattern_text.specs.declared.reader.Operands.{Operands}
 use Rattle.mc_pattern_text.specs.Roles.{role_of, role_behind, is_defining, is_input}
 use Rattle.mc_pattern_text.specs.Roles.{is_entangling, is_measuring}
 use Rattle.mc_pattern_text.specs.Roles.{is_command, is_output}
-use Rattle.mc_pattern_text.specs.Value.{is_first, is_second, word_under, spelled_commands}
-use Rattle.mc_pattern_text.specs.Value.{added_first, added_second, first_signal, second_signal}
-use Rattle.mc_pattern_text.specs.Value.{command_by}
-use Rattle.mc_pattern_text.specs.Judge.{Known, measured_in, is_in_second, judge_by, lacks_by}
+use Rattle.mc_pattern_text.specs.Value.{first_of, second_of, first_signal, second_signal}
+use Rattle.mc_pattern_text.specs.Value.{command_by, spelled_commands}
+use Rattle.mc_pattern_text.specs.Judge.{Known, measured_in, judge_by, lacks_by}
 
 -- the names of a list are held, and marks stand at their numbers
 pub record AreMarked (names list : List (List ℕ)) (marks : Bits) : Type 0 where
@@ -65,25 +64,23 @@ pub record IsOperand (names : List (List ℕ)) (first : Option (List ℕ)) (numb
   pub is : first ≡ Some name
   pub place : place_of names name ≡ Some number
 
--- the signal in which a word stands
-abbrev pub signal_at : {half : ℕ} → Operands half → Point → Signal
-signal_at o p = if is_in_second p then o.t else o.s
-
 -- what stands before a word on its line
 pub record Stands {half : ℕ} (names : List (List ℕ)) (marks : Bits) (o : Operands half) (p : Point)
-    (measured : List (List ℕ)) (signal : Words) (first : Option (List ℕ)) : Type 0 where
+    (measured : List (List ℕ)) (s t : Words) (first : Option (List ℕ)) : Type 0 where
   pub are_measured : AreMarked names measured marks
-  pub spelled : IsSpelled names signal (signal_at o p)
+  pub s_is : IsSpelled names s o.s
+  pub t_is : IsSpelled names t o.t
   pub operand : p.count ≡ 2 → is_entangling p.head ≡ true → IsOperand names first o.first
 
-abbrev pub known_by : List (List ℕ) → List (List ℕ) → List (List ℕ) → Words → Option (List ℕ)
-    → ℕ → Known
-known_by names measured listed signal first commands = record {
+abbrev pub known_by : List (List ℕ) → List (List ℕ) → List (List ℕ) → Words → Words
+    → Option (List ℕ) → ℕ → Known
+known_by names measured listed s t first commands = record {
   names = names;
   measured = measured;
   listed = listed;
   operand = first;
-  signal = signal;
+  s = s;
+  t = t;
   commands = commands;
 }
 
@@ -102,33 +99,29 @@ pub record Fills {half : ℕ} (names : List (List ℕ)) (o o' : Operands half) (
   pub angle : p.count ≡ 2 → is_measuring p.head ≡ true → o'.angle ≡ angle_of half word
   pub same_second : ¬ (p.count ≡ 2) → o'.second ≡ o.second
   pub same_angle : ¬ (p.count ≡ 2) → o'.angle ≡ o.angle
-  pub s : Joins names o.s o'.s (added_first p word)
-  pub t : Joins names o.t o'.t (added_second p word)
-
--- the signal that the last mark begins
-abbrev pub signal_behind : {half : ℕ} → Operands half → Option Mark → Signal
-signal_behind o mark = if is_second mark then o.t else o.s
+  pub s : Joins names o.s o'.s (first_of (role_of p) word)
+  pub t : Joins names o.t o'.t (second_of (role_of p) word)
 
 -- what a word behind the angle of a measurement with nothing against it does
 pub record TakesBehind {half : ℕ} (constants : Bool) (names : List (List ℕ)) (marks : Bits)
     (o o' : Operands half) (mark : Option Mark) (word : List ℕ) : Type 0 where
-  pub clean : (measured listed : List (List ℕ)) (signal : Words) (first : Option (List ℕ))
+  pub clean : (measured listed : List (List ℕ)) (s t : Words) (first : Option (List ℕ))
       (commands : ℕ) (last : Option Head) → AreMarked names measured marks
-      → IsSpelled names signal (signal_behind o mark)
-      → judge_by constants (known_by names measured listed signal first commands) last
+      → IsSpelled names s o.s → IsSpelled names t o.t
+      → judge_by constants (known_by names measured listed s t first commands) last
       (role_behind mark) word ≡ None
   pub first : o'.first ≡ o.first
   pub second : o'.second ≡ o.second
   pub angle : o'.angle ≡ o.angle
-  pub s : Joins names o.s o'.s (word_under is_first mark word)
-  pub t : Joins names o.t o'.t (word_under is_second mark word)
+  pub s : Joins names o.s o'.s (first_of (role_behind mark) word)
+  pub t : Joins names o.t o'.t (second_of (role_behind mark) word)
 
 -- what a word of a command with nothing against it does to the operands
 pub record Takes {half : ℕ} (constants : Bool) (names : List (List ℕ)) (marks : Bits)
     (o o' : Operands half) (p : Point) (word : List ℕ) : Type 0 where
-  pub clean : (measured listed : List (List ℕ)) (signal : Words) (first : Option (List ℕ))
-      (commands : ℕ) → Stands names marks o p measured signal first
-      → judge_by constants (known_by names measured listed signal first commands) p.last (role_of p)
+  pub clean : (measured listed : List (List ℕ)) (s t : Words) (first : Option (List ℕ))
+      (commands : ℕ) → Stands names marks o p measured s t first
+      → judge_by constants (known_by names measured listed s t first commands) p.last (role_of p)
       word ≡ None
   pub fills : Fills names o o' p word
 
@@ -140,11 +133,11 @@ Lists names outputs outputs' (word ∷ words) =
 
 -- what a word with nothing against it does
 pub record Moves {half : ℕ} (k k' : Reader half) (p : Point) (word : List ℕ) : Type 0 where
-  pub clean : (measured listed : List (List ℕ)) (signal : Words) (first : Option (List ℕ))
-      → Stands k.names (bits_of k.marks) k.operands p measured signal first
+  pub clean : (measured listed : List (List ℕ)) (s t : Words) (first : Option (List ℕ))
+      → Stands k.names (bits_of k.marks) k.operands p measured s t first
       → AreNumbers k.names listed k.outputs.items
       → judge_by k.constants
-      (known_by k.names measured listed signal first (length k.commands.items)) p.last (role_of p)
+      (known_by k.names measured listed s t first (length k.commands.items)) p.last (role_of p)
       word ≡ None
   pub constants : k'.constants ≡ k.constants
   pub names : k'.names ≡ k.names ++ added is_defining p word
@@ -170,10 +163,10 @@ marks_with _ q marks = marks
 
 -- what the end of a line with nothing against it does
 pub record Ends {half : ℕ} (k k' : Reader half) (p : Point) : Type 0 where
-  pub clean : (measured listed : List (List ℕ)) (signal : Words) (first : Option (List ℕ))
+  pub clean : (measured listed : List (List ℕ)) (s t : Words) (first : Option (List ℕ))
       (commands : ℕ) → AreMarked k.names measured (bits_of k.marks)
       → AreNumbers k.names listed k.outputs.items
-      → lacks_by (known_by k.names measured listed signal first commands) (role_of p) ≡ None
+      → lacks_by (known_by k.names measured listed s t first commands) (role_of p) ≡ None
   pub constants : k'.constants ≡ k.constants
   pub valid : AreNames k.names
   pub names : k'.names ≡ k.names

@@ -1,6 +1,6 @@
 -- The pattern that lines spell, by filters and maps over them.
 use Rattle.std.specs.Prelude.{ℕ, List, [], ◌∷◌, map, length, filter_map, Bool, true, false}
-use Rattle.std.specs.Prelude.{◌==◌, is_some, if◌then◌else◌, Option, None, Some}
+use Rattle.std.specs.Prelude.{if◌then◌else◌, Option, None, Some}
 use Rattle.mc_angle.specs.Angle.{angle_of}
 use Rattle.mc_model.specs.Signals.{Signal}
 use Rattle.mc_model.specs.Pattern.{Command, Prep, Ent, Meas, FixX, FixZ, Pattern}
@@ -16,8 +16,8 @@ use Rattle.mc_text.specs.Judged.{Words, Lines}
 use Rattle.mc_text.specs.Rules.{number_in}
 use Rattle.mc_text.specs.Lists.{names_at}
 use Rattle.mc_rows.specs.Rows.{set_by, has_one}
-use Rattle.mc_pattern_text.specs.Roles.{is_defining, is_input, is_output, is_measuring}
-use Rattle.mc_pattern_text.specs.Roles.{is_correcting}
+use Rattle.mc_pattern_text.specs.Roles.{Role, first_term, second_term, term, role_of, is_defining}
+use Rattle.mc_pattern_text.specs.Roles.{is_input, is_output}
 
 -- whether the last mark is the one that begins the first signal, or the second
 abbrev pub is_first : Option Mark → Bool
@@ -28,33 +28,25 @@ abbrev pub is_second : Option Mark → Bool
 is_second (Some T) = true
 is_second _ = false
 
--- the word, where it is no mark and the last mark before it passes the test
-abbrev pub word_under : (Option Mark → Bool) → Option Mark → List ℕ → Words
-word_under test mark word =
-    if is_some (mark_of word) then [] else (if test mark then word ∷ [] else [])
+-- what a word in a role adds to the first signal of its line, and to the second
+abbrev pub first_of : Role → List ℕ → Words
+first_of first_term word = if is_second (mark_of word) then [] else word ∷ []
+first_of term word = word ∷ []
+first_of _ word = []
 
--- the words that a word adds to the first signal of its line, and to the second: those of a
--- correction behind the corrected qubit, and those of a measurement behind its angle and a mark
-abbrev pub added_first : Point → List ℕ → Words
-added_first p word =
-    if p.count == 0 then []
-    else (if p.count == 1 then []
-    else (if is_correcting p.head then word ∷ []
-    else (if p.count == 2 then []
-    else (if is_measuring p.head then word_under is_first p.mark word else []))))
+abbrev pub second_of : Role → List ℕ → Words
+second_of second_term word = word ∷ []
+second_of _ word = []
 
-abbrev pub added_second : Point → List ℕ → Words
-added_second p word =
-    if p.count == 0 then []
-    else (if p.count == 1 then []
-    else (if p.count == 2 then []
-    else (if is_measuring p.head then word_under is_second p.mark word else [])))
+-- the words that are terms of the signals of a line
+abbrev pub added_by : (Role → List ℕ → Words) → Point → List ℕ → Words
+added_by adds p word = adds (role_of p) word
 
 abbrev pub first_signal : Words → Words
-first_signal here = words_by added_first (first_point None) here
+first_signal here = words_by (added_by first_of) (first_point None) here
 
 abbrev pub second_signal : Words → Words
-second_signal here = words_by added_second (first_point None) here
+second_signal here = words_by (added_by second_of) (first_point None) here
 
 -- the words of a command
 pub data Spelled : Type 0 where

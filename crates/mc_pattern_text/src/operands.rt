@@ -19,7 +19,7 @@ ghost use Rattle.mc_rows.specs.Rows.{is_one};
 ghost use Rattle.mc_pattern_text.specs.Judge.{judge_by, still_name, second_name, member_name};
 ghost use Rattle.mc_pattern_text.specs.Judge.{opening_word, term_word};
 ghost use Rattle.mc_pattern_text.specs.Kept.{AreMarked, IsOperand, IsSpelled, Joins};
-ghost use Rattle.mc_pattern_text.specs.Kept.{Stands, Takes, TakesBehind, signal_behind, known_by};
+ghost use Rattle.mc_pattern_text.specs.Kept.{Stands, Takes, TakesBehind, known_by};
 ghost use Rattle.mc_pattern_text.specs.Kept.{command_with};
 
 use crate::reader::Operands;
@@ -243,7 +243,6 @@ fn take_term(
     ensures clean { OnOk result ((measured words : List (List ℕ))
         → AreMarked names.now measured (bits_of marks.now) → IsSpelled names.now words signal.old
         → term_word constants names.now measured words word.now ≡ None) }
-    ensures unmarked { OnOk result (mark_of word.now ≡ None) }
     ensures joins { OnOk result (Joins names.now signal.old signal.new (word.now ∷ [])) }
     ensures err { IfErr result (λ stop. (measured words : List (List ℕ))
         → AreMarked names.now measured (bits_of marks.now) → IsSpelled names.now words signal.old
@@ -278,10 +277,10 @@ fn take_behind<const H: usize>(
 ) -> Result<(), Stop>
     ensures ok { OnOk result
         (TakesBehind constants names.now (bits_of marks.now) operands.old operands.new mark word.now) }
-    ensures err { IfErr result (λ stop. (measured listed signal : List (List ℕ)) (first : Option (List ℕ))
+    ensures err { IfErr result (λ stop. (measured listed s t : List (List ℕ)) (first : Option (List ℕ))
         (commands : ℕ) (last : Option PlainHead) → AreMarked names.now measured (bits_of marks.now)
-        → IsSpelled names.now signal (signal_behind operands.old mark)
-        → IsStop stop (judge_by constants (known_by names.now measured listed signal first commands) last
+        → IsSpelled names.now s operands.old.s → IsSpelled names.now t operands.old.t
+        → IsStop stop (judge_by constants (known_by names.now measured listed s t first commands) last
         (role_behind mark) word.now)) }
 {
     match mark {
@@ -310,9 +309,9 @@ pub(crate) fn take_word<const H: usize>(
     requires command { has_operand point.head ≡ true }
     ensures ok { OnOk result
         (Takes constants names.now (bits_of marks.now) operands.old operands.new point word.now) }
-    ensures err { IfErr result (λ stop. (measured listed signal : List (List ℕ)) (first : Option (List ℕ))
-        (commands : ℕ) → Stands names.now (bits_of marks.now) operands.old point measured signal first
-        → IsStop stop (judge_by constants (known_by names.now measured listed signal first commands)
+    ensures err { IfErr result (λ stop. (measured listed s t : List (List ℕ)) (first : Option (List ℕ))
+        (commands : ℕ) → Stands names.now (bits_of marks.now) operands.old point measured s t first
+        → IsStop stop (judge_by constants (known_by names.now measured listed s t first commands)
         point.last (role_of point) word.now)) }
 {
     match (point.head, point.count) {
