@@ -42,7 +42,7 @@ use Rattle.mc_pattern_text.proofs.NamedCommands.{measured_there}
 use Rattle.mc_pattern_text.proofs.CleanCommands.{IsAfter, AreThere, front_distinct, front_more}
 use Rattle.mc_pattern_text.proofs.CleanCommands.{known_clean, measured_held, held_written}
 use Rattle.mc_pattern_text.proofs.CleanLines.{command_clean}
-use Rattle.mc_rows.proofs.Lines.{all_front}
+use Rattle.mc_rows.proofs.Lines.{all_front, among}
 use Rattle.mc_pattern_text.proofs.Parts.{last_head-line, role_at, names_here}
 
 -- the lines of one command more
@@ -181,38 +181,33 @@ record AreDue (ns : List Name) (done : List Command) (qs : List ℕ) : Type 0 wh
   below : All (λ q. q < length ns) qs
   once : (q : ℕ) → q < length ns → count_by (nat_eq q) qs ≡ cond (not (measured done q)) 1 0
 
-count_front : (q : ℕ) (done qs : List ℕ) → count_by (nat_eq q) (done ++ q ∷ qs) ≤ 1
-    → is_member done q ≡ false
-count_front q done qs once =
+-- a qubit that is listed once is not measured, and not among those before it
+once_there : (m : Bool) (q : ℕ) (done qs : List ℕ)
+    → count_by (nat_eq q) (done ++ q ∷ qs) ≡ cond (not m) 1 0
+    → (m ≡ false) × (is_member done q ≡ false)
+once_there m q done qs count =
     let both = sum_by-append (λ s. cond (nat_eq q s) 1 0) done (q ∷ qs) in
     let here = sum_by-cons (λ s. cond (nat_eq q s) 1 0) q qs in
     let one : ℕ = 1 in
-    let same : cond (nat_eq q q) 1 0 ≡ one = rw (eq-eqb q q refl) refl in
-    elim (cases_Bool (is_member done q)) [
-      | inl is ↦ let some = member_counts done q is in absurd
-          (omega (arith, both, here, same, once, some))
-      | inr none ↦ none
-    ]
+    let same : cond (nat_eq q q) 1 0 ≡ one = rw (eq-eqb q q refl) refl in (
+      live m count (omega (arith, both, here, same)),
+      elim (cases_Bool (is_member done q)) [
+        | inl is ↦
+            let some = member_counts done q is in
+            let most = few m in
+            absurd (omega (arith, both, here, same, count, some, most))
+        | inr none ↦ none
+      ],
+    )
+  where
+    few : (t : Bool) → cond (not t) 1 0 ≤ 1
+    few true = omega arith
+    few false = omega arith
 
-count_last : (q : ℕ) (done qs : List ℕ) → 1 ≤ count_by (nat_eq q) (done ++ q ∷ qs)
-count_last q done qs =
-    let both = sum_by-append (λ s. cond (nat_eq q s) 1 0) done (q ∷ qs) in
-    let here = sum_by-cons (λ s. cond (nat_eq q s) 1 0) q qs in
-    let one : ℕ = 1 in
-    let same : cond (nat_eq q q) 1 0 ≡ one = rw (eq-eqb q q refl) refl in
-    omega (arith, both, here, same)
-
-due_by : (t : Bool) → 1 ≤ cond (not t) 1 0 → t ≡ false
-due_by true some = absurd (omega arith)
-due_by false some = refl
-
-live_one : (t : Bool) → t ≡ false → 1 ≤ cond (not t) 1 0
-live_one true e = absurd (cc e)
-live_one false e = omega arith
-
-few_by : (t : Bool) → cond (not t) 1 0 ≤ 1
-few_by true = omega arith
-few_by false = omega arith
+    live : (t : Bool) → count_by (nat_eq q) (done ++ q ∷ qs) ≡ cond (not t) 1 0
+        → 1 ≤ count_by (nat_eq q) (done ++ q ∷ qs) → t ≡ false
+    live true e some = absurd (omega (arith, e, some))
+    live false e some = refl
 
 settled_by : (t s : Bool) → (t ≡ false → s ≡ true) → (t || s) ≡ true
 settled_by true s due = refl
@@ -235,8 +230,8 @@ outputs_clean constants ns inputs before done listed [] h whole due =
     let out = held_written ns listed q h.names.distinct due'.below lt in
     rw (here, held, out) (settled_by (measured done q) (is_member listed q) (λ live.
     counts_member listed q (let count = due'.once q lt in
-    let one = live_one (measured done q) live in
-    omega (arith, count, one))))) in
+    let one = rw live at count in
+    omega (arith, one))))) in
     rw (
       role_at before (codes "out") list,
       names_here is_output before (codes "out") list,
@@ -250,14 +245,11 @@ outputs_clean constants ns inputs before done listed [] h whole due =
 outputs_clean constants ns inputs before done listed (q ∷ qs) h whole due =
     let list = map (name_at ns) listed in
     let lt : q < length ns = below_by (length ns) (listed ++ q ∷ qs) q due.below
-    (counts_member (listed ++ q ∷ qs) q (count_last q listed qs)) in
-    let count = due.once q lt in
-    let some = count_last q listed qs in
-    let most = few_by (measured done q) in
-    let live = due_by (measured done q) (omega (arith, count, some)) in
+    (among listed q qs) in
+    let once = once_there (measured done q) q listed qs (due.once q lt) in
+    let live = once.0 in
     let front = all_front (length ns) listed (q ∷ qs) due.below in
-    let free = held_written ns listed q h.names.distinct front lt
-    ∙ count_front q listed qs (omega (arith, count, most)) in
+    let free = held_written ns listed q h.names.distinct front lt ∙ once.1 in
     let known = known_clean ns inputs before done q h (omega (arith, whole, lt)) in
     let held = measured_held ns inputs before done q h (omega (arith, whole, lt)) ∙ live in
     let next : (listed ++ q ∷ []) ++ qs ≡ listed ++ (q ∷ qs) = append_assoc listed (q ∷ []) qs in

@@ -6,7 +6,7 @@ use Rattle.std.specs.List.{list_all, list_any}
 use Rattle.std.proofs.lemmas.Bool.{and_parts, eqb-true, or_cases}
 use Rattle.std.proofs.lemmas.List.Folds.{list_all-append}
 use Rattle.mc_model.specs.Bits.{Bits}
-use Rattle.mc_model.specs.Signals.{Signal}
+use Rattle.mc_model.specs.Signals.{IsRising}
 use Rattle.mc_pattern.specs.Rules.{is_undone}
 use Rattle.mc_pattern.proofs.Members.{none_by}
 use Rattle.mc_model.specs.Numbers.{is_member}
@@ -26,7 +26,7 @@ use Rattle.mc_text.specs.Rules.{number_in, broken, listed_name}
 use Rattle.mc_text.proofs.Unbroken.{holds_by, listed_is, next_none}
 use Rattle.mc_text.proofs.Numbers.{place-held}
 use Rattle.mc_rows.specs.Rows.{is_one, has_one, named}
-use Rattle.mc_rows.proofs.RisingSets.{member_where}
+use Rattle.mc_rows.proofs.RisingSets.{member_where, rising_where}
 use Rattle.mc_rows.proofs.Sets.{name_no_one}
 use Rattle.mc_pattern_text.specs.Roles.{Role, first_term, second_term, term, role_of, is_defining}
 use Rattle.mc_pattern_text.specs.Value.{is_second, signal_in, first_of, second_of, added_by}
@@ -36,6 +36,7 @@ use Rattle.mc_pattern_text.specs.Judge.{judge_by, rules_with}
 use Rattle.mc_pattern_text.specs.Kept.{AreMarked}
 use Rattle.mc_pattern_text.proofs.Marked.{marked-name}
 use Rattle.mc_pattern_text.proofs.Parts.{names_stay}
+use Rattle.mc_pattern_text.proofs.Sets.{signal_stays}
 
 abbrev pub is_good : Bool → List (List ℕ) → List (List ℕ) → List ℕ → Bool
 is_good constants names measured word =
@@ -118,27 +119,8 @@ module _ (constants : Bool) (adds : Role → List ℕ → Words)
       (words_by (added_by adds) (next_point p w) ws)
       ∙ ap₂ (λ (a b : Bool). a && b) one' rest
 
-module _ (constants : Bool) (before : Lines) (h : List ℕ) (ws : Words)
-    (gate : is_defining (head_of h) ≡ false)
-    (clean : CleanWords (rules_with constants) before (h ∷ []) ws) where
-  pub first_signal_good : AreGood constants (names_at is_defining before []) (measured_in before)
-      (first_signal (h ∷ ws))
-  first_signal_good = subst
-      (AreGood constants (names_at is_defining before []) (measured_in before))
-      (words_by-last (added_by first_of) (λ p last w. refl) (last_head before)
-      (next_point (first_point None) h) ws)
-      (words_good constants first_of (first_good constants) before h [] ws gate clean)
-
-  pub second_signal_good : AreGood constants (names_at is_defining before []) (measured_in before)
-      (second_signal (h ∷ ws))
-  second_signal_good = subst
-      (AreGood constants (names_at is_defining before []) (measured_in before))
-      (words_by-last (added_by second_of) (λ p last w. refl) (last_head before)
-      (next_point (first_point None) h) ws)
-      (words_good constants second_of (second_good constants) before h [] ws gate clean)
-
 -- a signal of such terms
-pub good_held : (constants : Bool) (names measured : List (List ℕ)) (words : Words)
+good_held : (constants : Bool) (names measured : List (List ℕ)) (words : Words)
     → AreGood constants names measured words → list_all (is_held names) (named words) ≡ true
 good_held constants names measured [] good = refl
 good_held constants names measured (w ∷ words) good =
@@ -187,25 +169,7 @@ and_true_left : (a b : Bool) → (a && b) ≡ true → a ≡ true
 and_true_left true b e = refl
 and_true_left false b e = absurd (cc e)
 
--- each member of a signal has a mark
-abbrev pub AreDone : Bits → Signal → Type 0
-AreDone marks signal = (q : ℕ) → is_member signal.members q ≡ true → marks q ≡ true
-
-pub none_undone : (done : Bits) (signal : Signal) → AreDone done signal
-    → list_any (is_undone done) signal.members ≡ false
-none_undone done signal all =
-    none_by (is_undone done) signal.members (λ x member. rw (all x member) refl)
-
-pub signal_done : (constants : Bool) (names measured : List (List ℕ)) (marks : Bits)
-    (words : Words) → AreMarked names measured marks → AreGood constants names measured words
-    → AreDone marks (signal_in names words)
-signal_done constants names measured marks words are good = λ q member.
-    let p = is_member (map (number_in names) (named words)) in
-    members_done constants names measured marks words q are good
-    (and_true_left (p q) (nat_lt q (length names))
-    (sym (member_where p (length names) q) ∙ member))
-
-pub good_plain : (constants : Bool) (names measured : List (List ℕ)) (words : Words)
+good_plain : (constants : Bool) (names measured : List (List ℕ)) (words : Words)
     → constants ≡ false → AreGood constants names measured words
     → has_one words ≡ false
 good_plain constants names measured [] none good = refl
@@ -218,3 +182,50 @@ good_plain constants names measured (w ∷ words) none good =
         → has_one words ≡ false → has_one (w ∷ words) ≡ false
     by_test true e one rest = let one' = rw (e, none) at one in absurd (cc one')
     by_test false e one rest = rw (e, rest) refl
+
+-- what holds of a signal of such terms
+pub record AreTerms (constants : Bool) (names : List (List ℕ)) (marks : Bits) (words : Words)
+    : Type 0 where
+  pub stays : (more : List (List ℕ)) → signal_in (names ++ more) words ≡ signal_in names words
+  pub done : list_any (is_undone marks) (signal_in names words).members ≡ false
+  pub plain : constants ≡ false → has_one words ≡ false
+  pub rising : IsRising (signal_in names words).members
+
+terms_are : (constants : Bool) (names measured : List (List ℕ)) (marks : Bits) (words : Words)
+    → AreMarked names measured marks → AreGood constants names measured words
+    → AreTerms constants names marks words
+terms_are constants names measured marks words are good =
+    let p = is_member (map (number_in names) (named words)) in
+    record {
+      stays = λ more. signal_stays names more words (good_held constants names measured words good);
+      done = none_by (is_undone marks) (signal_in names words).members (λ q member.
+          let is = and_parts (p q) (nat_lt q (length names))
+          (sym (member_where p (length names) q) ∙ member) in
+          rw (members_done constants names measured marks words q are good is.0) refl);
+      plain = λ none. good_plain constants names measured words none good;
+      rising = rising_where p (length names);
+    }
+
+-- the signals of a line
+module _ (constants : Bool) (before : Lines) (h : List ℕ) (ws : Words) (marks : Bits)
+    (are : AreMarked (names_at is_defining before []) (measured_in before) marks)
+    (gate : is_defining (head_of h) ≡ false)
+    (clean : CleanWords (rules_with constants) before (h ∷ []) ws) where
+  pub first_terms : AreTerms constants (names_at is_defining before []) marks (first_signal (h ∷ ws))
+  first_terms =
+      terms_are constants (names_at is_defining before []) (measured_in before) marks
+      (first_signal (h ∷ ws)) are
+      (subst (AreGood constants (names_at is_defining before []) (measured_in before))
+      (words_by-last (added_by first_of) (λ p last w. refl) (last_head before)
+      (next_point (first_point None) h) ws)
+      (words_good constants first_of (first_good constants) before h [] ws gate clean))
+
+  pub second_terms : AreTerms constants (names_at is_defining before []) marks
+      (second_signal (h ∷ ws))
+  second_terms =
+      terms_are constants (names_at is_defining before []) (measured_in before) marks
+      (second_signal (h ∷ ws)) are
+      (subst (AreGood constants (names_at is_defining before []) (measured_in before))
+      (words_by-last (added_by second_of) (λ p last w. refl) (last_head before)
+      (next_point (first_point None) h) ws)
+      (words_good constants second_of (second_good constants) before h [] ws gate clean))

@@ -1,6 +1,6 @@
 -- Lines without a fault make a pattern.
 use Rattle.std.proofs.Common.{◌≡◌, ℕ, ◌<◌, List, [], ◌∷◌, ◌++◌, Bool, true, false, ◌||◌, ◌&&◌}
-use Rattle.std.proofs.Common.{Option, Some, None, length, map, refl, sym, subst, ap, ◌∙◌}
+use Rattle.std.proofs.Common.{Option, Some, None, length, refl, sym, subst, ap, ◌∙◌}
 use Rattle.std.proofs.Common.{arith, append_assoc, IsTrue, set, length-set, nat_le}
 use Rattle.std.proofs.Common.{length-append, nat_eq}
 use Rattle.std.proofs.Common.{not}
@@ -14,8 +14,6 @@ use Rattle.std.proofs.lemmas.Map.Keys.{IsDistinct-push}
 use Rattle.mc_model.specs.Bits.{Bits, bits_of}
 use Rattle.mc_model.specs.Names.{Name, AreNames, name_eq, is_name, is_held, place_of}
 use Rattle.mc_model.specs.Pattern.{Command, Ent, Meas, FixX, FixZ, measured_by}
-use Rattle.mc_model.specs.Numbers.{is_member}
-use Rattle.mc_model.specs.Signals.{IsRising}
 use Rattle.mc_angle.specs.Angle.{angle_of}
 use Rattle.mc_model.specs.Steps.{is_permitted}
 use Rattle.mc_text.specs.declared.head.Head.{Head}
@@ -32,13 +30,11 @@ use Rattle.mc_text.proofs.Kept.{names_at-line, number_in-more}
 use Rattle.mc_text.proofs.Kept.{operands_at-some, operands_at-none}
 use Rattle.mc_text.proofs.Numbers.{place-held, place-same}
 use Rattle.mc_text.proofs.Unbroken.{holds_by, known_is, new_is, next_none, unbroken, unpassed}
-use Rattle.mc_rows.specs.Rows.{named}
-use Rattle.mc_rows.proofs.RisingSets.{rising_where}
 use Rattle.mc_text.proofs.Members.{name_eq-same, place-below}
-use Rattle.mc_pattern.specs.Rules.{marked, first_rule, is_undone}
+use Rattle.mc_pattern.specs.Rules.{marked, is_undone}
 use Rattle.mc_pattern.proofs.Built.{marks_set}
 use Rattle.mc_pattern_text.specs.Roles.{may_follow, role_of, is_defining, is_input}
-use Rattle.mc_pattern_text.specs.Roles.{is_output, is_measuring, is_correcting, is_command}
+use Rattle.mc_pattern_text.specs.Roles.{is_output, is_measuring, is_command}
 use Rattle.mc_pattern_text.specs.Roles.{is_ending}
 use Rattle.mc_pattern_text.specs.Roles.{has_operand, role_in, operand, output}
 use Rattle.mc_pattern_text.specs.Value.{first_signal, second_signal, signal_in}
@@ -49,17 +45,15 @@ use Rattle.mc_pattern_text.specs.Judge.{measured_in, known_at, rules_with, is_se
 use Rattle.mc_pattern_text.specs.Judge.{still_name}
 use Rattle.mc_pattern_text.specs.Judge.{second_name, output_name, lacks_by}
 use Rattle.mc_pattern_text.specs.Kept.{AreMarked}
-use Rattle.mc_pattern_text.proofs.GoodTerms.{first_signal_good, second_signal_good, good_held}
-use Rattle.mc_pattern_text.proofs.GoodTerms.{none_undone, signal_done, good_plain}
+use Rattle.mc_pattern_text.proofs.GoodTerms.{first_terms, second_terms}
 use Rattle.mc_pattern_text.proofs.Keeping.{marked-word}
 use Rattle.mc_pattern_text.proofs.MadeCommands.{IsMade, IsNext, made_inputs, made_prep, made_push}
 use Rattle.mc_pattern_text.proofs.MadeCommands.{no_names, angle_small, rule_one, rule_two}
 use Rattle.mc_pattern_text.proofs.KeepingLine.{replaced_or}
-use Rattle.mc_pattern_text.proofs.LineOrder.{is_closed, open_before, end_follows, none_follows}
+use Rattle.mc_pattern_text.proofs.LineOrder.{is_closed, open_before, end_follows, known_head}
 use Rattle.mc_pattern_text.proofs.LineOrder.{first_line}
 use Rattle.mc_pattern_text.proofs.Marked.{marked-name}
 use Rattle.mc_pattern_text.proofs.Parts.{last_head-line, role_at, names_here, names_stay}
-use Rattle.mc_pattern_text.proofs.Sets.{signal_stays}
 
 -- no name of a list is measured
 abbrev pub is_still : List Name → Name → Bool
@@ -139,6 +133,7 @@ still_is names done word clean =
 record IsLiveQubit (names : List Name) (marks : List Bool) (word : Name) : Type 0 where
   number : ℕ
   place : place_of names word ≡ Some number
+  is : (more : List Name) → number_in (names ++ more) word ≡ number
   below : number < length names
   live : bits_of marks number ≡ false
 
@@ -150,6 +145,7 @@ live_qubit names done marks word are is =
     record {
       number = place.0;
       place = place.1;
+      is = λ more. number_in-more names more word place.0 place.1;
       below = place-below names word place.0 place.1;
       live = marked-name names done (bits_of marks) word place.0 are place.1 ∙ is.still;
     }
@@ -162,9 +158,17 @@ other_number names a b q r pa pb apart e =
     let equal = name_eq-same a b same in
     cc (equal, apart)
 
-rising_in : (names : List Name) (words : Words) → IsRising (signal_in names words).members
-rising_in names words =
-    rising_where (is_member (map (number_in names) (named words))) (length names)
+-- a record word of a command with operands
+operand_head : (hd : Option Head) → has_operand hd ≡ true
+    → (role_in hd 1 None ≡ operand) × (is_defining hd ≡ false) × (is_input hd ≡ false)
+    × (is_output hd ≡ false) × (is_ending hd ≡ false) × (is_closed hd ≡ false)
+    × (is_command hd ≡ true) × (hd ≡ None → ⊥)
+operand_head None e = absurd (cc e)
+operand_head (Some E) e = (refl, refl, refl, refl, refl, refl, refl, λ none. cc none)
+operand_head (Some M) e = (refl, refl, refl, refl, refl, refl, refl, λ none. cc none)
+operand_head (Some X) e = (refl, refl, refl, refl, refl, refl, refl, λ none. cc none)
+operand_head (Some Z) e = (refl, refl, refl, refl, refl, refl, refl, λ none. cc none)
+operand_head (Some _) e = absurd (cc e)
 
 module _ (half : ℕ) (constants : Bool) (before : Lines) (h : List ℕ)
     (sound : IsSound half constants before) where
@@ -235,32 +239,6 @@ module _ (half : ℕ) (constants : Bool) (before : Lines) (h : List ℕ)
         complete = λ e. rw (defined, measured, listed') all;
       }
 
-  -- a command that prepares nothing
-  pushed_sound : (hd : Option Head) (words : Words) (one : Spelled) (c : Command)
-      (done : List Name) (marks : List Bool) → head_of h ≡ hd
-      → may_follow (last_head before) hd ≡ true → is_closed hd ≡ false → is_ending hd ≡ false
-      → is_output hd ≡ false → (hd ≡ None → ⊥) → is_defining hd ≡ false → is_input hd ≡ false
-      → spelled_command (h ∷ words) ≡ Some one
-      → length (spelled_commands before) < 262144
-      → measured_in (before ++ (h ∷ words) ∷ []) ≡ done
-      → IsNext half constants (names_at is_defining before []) sound.made.marks one c
-      → length marks ≡ length sound.made.marks
-      → bits_of marks ≡ marked (bits_of sound.made.marks) (measured_by c)
-      → AreMarked (names_at is_defining before []) done (bits_of marks)
-      → IsSound half constants (before ++ (h ∷ words) ∷ [])
-  pushed_sound hd words one c done marks g order unclosed other no_output some no_name no_input line
-      room measured next long same are =
-      let spelled : spelled_commands (before ++ (h ∷ words) ∷ [])
-      ≡ spelled_commands before ++ one ∷ [] =
-      filter_map-append spelled_command before ((h ∷ words) ∷ []) ∙ rw line refl in
-      open_sound hd words (names_at is_defining before []) (names_at is_input before []) done
-      (spelled_commands before ++ one ∷ []) g order unclosed other no_output some
-      (names_stay is_defining before h words (rw g no_name))
-      (names_stay is_input before h words (rw g no_input)) measured spelled
-      (made_push half constants (names_at is_defining before []) (names_at is_input before [])
-      (measured_in before) done (spelled_commands before) one c marks sound.made next room long same
-      are)
-
   -- the record word may stand there
   record_is : (words : Words) → CleanWords (rules_with constants) before [] (h ∷ words)
       → (may_follow (last_head before) (head_of h) ≡ true)
@@ -288,20 +266,35 @@ module _ (half : ℕ) (constants : Bool) (before : Lines) (h : List ℕ)
       → IsLiveQubit (names_at is_defining before []) sound.made.marks a
   first_live a rest gate clean =
       let names = names_at is_defining before [] in
-      let is = operand_is (head_of h) gate in
+      let is = operand_head (head_of h) gate in
       let clean' : still_name names (measured_in before) a ≡ None =
       rw (is.0, names_stay is_defining before h [] is.1) at clean.0 in
       live_qubit names (measured_in before) sound.made.marks a sound.made.measured
       (still_is names (measured_in before) a clean')
-    where
-      operand_is : (hd : Option Head) → has_operand hd ≡ true
-          → (role_in hd 1 None ≡ operand) × (is_defining hd ≡ false)
-      operand_is None e = absurd (cc e)
-      operand_is (Some E) e = (refl, refl)
-      operand_is (Some M) e = (refl, refl)
-      operand_is (Some X) e = (refl, refl)
-      operand_is (Some Z) e = (refl, refl)
-      operand_is (Some _) e = absurd (cc e)
+
+  -- a command that prepares nothing
+  pushed_sound : (words : Words) (one : Spelled) (c : Command) (done : List Name)
+      (marks : List Bool) → has_operand (head_of h) ≡ true
+      → CleanWords (rules_with constants) before [] (h ∷ words)
+      → spelled_command (h ∷ words) ≡ Some one
+      → measured_in (before ++ (h ∷ words) ∷ []) ≡ done
+      → IsNext half constants (names_at is_defining before []) sound.made.marks one c
+      → length marks ≡ length sound.made.marks
+      → bits_of marks ≡ marked (bits_of sound.made.marks) (measured_by c)
+      → AreMarked (names_at is_defining before []) done (bits_of marks)
+      → IsSound half constants (before ++ (h ∷ words) ∷ [])
+  pushed_sound words one c done marks gate clean line measured next long same are =
+      let names = names_at is_defining before [] in
+      let inputs = names_at is_input before [] in
+      let is = operand_head (head_of h) gate in
+      let spelled : spelled_commands (before ++ (h ∷ words) ∷ [])
+      ≡ spelled_commands before ++ one ∷ [] =
+      filter_map-append spelled_command before ((h ∷ words) ∷ []) ∙ rw line refl in
+      open_sound (head_of h) words names inputs done (spelled_commands before ++ one ∷ []) refl
+      (follows words clean) is.5 is.4 is.3 is.7 (names_stay is_defining before h words is.1)
+      (names_stay is_input before h words is.2) measured spelled
+      (made_push half constants names inputs (measured_in before) done (spelled_commands before) one
+      c marks sound.made next (room words clean is.6) long same are)
 
   measured_other : (words : Words) → is_measuring (head_of h) ≡ false
       → measured_in (before ++ (h ∷ words) ∷ []) ≡ measured_in before
@@ -342,8 +335,6 @@ module _ (half : ℕ) (constants : Bool) (before : Lines) (h : List ℕ)
       let names = names_at is_defining before [] in
       let done = measured_in before in
       let marks = sound.made.marks in
-      let order : may_follow (last_head before) (Some E) ≡ true =
-      rw (← g) (follows (a ∷ b ∷ []) clean) in
       let first = first_live a (b ∷ []) (rw g refl) clean.1 in
       let second : second_name names done (Some a) b ≡ None = rw g at clean.1.1.0 in
       let both = next_none (still_name names done b) (broken ((name_eq a b, SameOperand) ∷ []))
@@ -351,15 +342,9 @@ module _ (half : ℕ) (constants : Bool) (before : Lines) (h : List ℕ)
       let other = live_qubit names done marks b sound.made.measured
       (still_is names done b both.0) in
       let apart = (unbroken (name_eq a b) SameOperand [] both.1).0 in
-      pushed_sound (Some E) (a ∷ b ∷ []) (spelled_e a b) (Ent first.number other.number) done marks
-      g order refl refl refl (λ e. cc e) refl refl (rw g refl)
-      (room (a ∷ b ∷ []) clean (rw g refl))
-      (measured_other (a ∷ b ∷ []) (rw g refl)) (record {
-        is = λ more.
-            rw (
-              number_in-more names more a first.number first.place,
-              number_in-more names more b other.number other.place,
-            ) refl;
+      pushed_sound (a ∷ b ∷ []) (spelled_e a b) (Ent first.number other.number) done marks
+      (rw g refl) clean (rw g refl) (measured_other (a ∷ b ∷ []) (rw g refl)) (record {
+        is = λ more. rw (first.is more, other.is more) refl;
         no_prep = refl;
         typed = tt;
         rule = rule_two (length names) (bits_of marks) first.number other.number first.below
@@ -380,54 +365,37 @@ module _ (half : ℕ) (constants : Bool) (before : Lines) (h : List ℕ)
       let made = sound.made in
       let marks = made.marks in
       let words = a ∷ b ∷ rest in
-      let order : may_follow (last_head before) (Some M) ≡ true = rw (← g) (follows words clean) in
       let first = first_live a (b ∷ rest) (rw g refl) clean.1 in
       let ss = first_signal (h ∷ words) in
       let ts = second_signal (h ∷ words) in
-      let s_good = first_signal_good constants before h words (rw g refl) clean.1 in
-      let t_good = second_signal_good constants before h words (rw g refl) clean.1 in
-      let s_held = good_held constants names done ss s_good in
-      let t_held = good_held constants names done ts t_good in
-      let s_done = none_undone (bits_of marks) (signal_in names ss)
-      (signal_done constants names done (bits_of marks) ss made.measured s_good) in
-      let t_done = none_undone (bits_of marks) (signal_in names ts)
-      (signal_done constants names done (bits_of marks) ts made.measured t_good) in
+      let s = first_terms constants before h words (bits_of marks) made.measured (rw g refl) clean.1 in
+      let t = second_terms constants before h words (bits_of marks) made.measured (rw g refl)
+      clean.1 in
       let members : list_any (is_undone (bits_of marks))
       ((signal_in names ss).members ++ (signal_in names ts).members) ≡ false =
       rw (
         list_any-append (is_undone (bits_of marks)) (signal_in names ss).members
             (signal_in names ts).members,
-        s_done,
-        t_done,
+        s.done,
+        t.done,
       ) refl in
       let few = made.built.begun.names.few in
       let below = first.below in
       let long : first.number < length marks = rw made.built.long (omega arith) in
       let bits = marks_set marks first.number long in
-      pushed_sound (Some M) words (spelled_m a b ss ts)
+      pushed_sound words (spelled_m a b ss ts)
       (Meas first.number (angle_of half b) (signal_in names ss) (signal_in names ts))
-      (done ++ a ∷ []) (set marks first.number true) g order refl refl refl (λ e. cc e) refl refl
-      (rw g refl) (room words clean (rw g refl))
+      (done ++ a ∷ []) (set marks first.number true) (rw g refl) clean (rw g refl)
       (operands_at-some 0 is_measuring before (h ∷ words) a (rw g refl)) (record {
-        is = λ more.
-            rw (
-              number_in-more names more a first.number first.place,
-              signal_stays names more ss s_held,
-              signal_stays names more ts t_held,
-            ) refl;
+        is = λ more. rw (first.is more, s.stays more, t.stays more) refl;
         no_prep = refl;
-        typed = (
-          angle_small half b made.built.begun.permitted,
-          rising_in names ss,
-          rising_in names ts,
-        );
+        typed = (angle_small half b made.built.begun.permitted, s.rising, t.rising);
         rule = rule_one (length names) (bits_of marks) first.number
             ((signal_in names ss).members ++ (signal_in names ts).members) first.below first.live
             members;
         plain = λ none.
-            both_plain (signal_in names ss).constant (signal_in names ts).constant
-            (good_plain constants names done ss none s_good)
-            (good_plain constants names done ts none t_good);
+            both_plain (signal_in names ss).constant (signal_in names ts).constant (s.plain none)
+            (t.plain none);
       })
       (length-set marks first.number true) bits
       (marked-word names done (bits_of marks) (bits_of (set marks first.number true)) a first.number
@@ -436,48 +404,7 @@ module _ (half : ℕ) (constants : Bool) (before : Lines) (h : List ℕ)
       ∙ replaced_or (bits_of marks) first.number r (nat_eq r first.number) refl))
     where
       both_plain : (x y : Bool) → x ≡ false → y ≡ false → (x || y) ≡ false
-      both_plain false y e f = f
-      both_plain true y e f = absurd (cc e)
-
-  -- what a correction needs
-  record IsCorrected (a : Name) (words : Words) : Type 0 where
-    qubit : IsLiveQubit (names_at is_defining before []) sound.made.marks a
-    number : (more : List Name)
-        → number_in (names_at is_defining before [] ++ more) a ≡ qubit.number
-    signal : (more : List Name) → signal_in (names_at is_defining before [] ++ more) words
-        ≡ signal_in (names_at is_defining before []) words
-    rule : first_rule (length (names_at is_defining before [])) (bits_of sound.made.marks)
-        (qubit.number ∷ []) false (signal_in (names_at is_defining before []) words).members ≡ None
-    plain : constants ≡ false
-        → (signal_in (names_at is_defining before []) words).constant ≡ false
-
-  corrected : (a : Name) (rest : Words) → is_correcting (head_of h) ≡ true
-      → CleanWords (rules_with constants) before (h ∷ []) (a ∷ rest)
-      → IsCorrected a (first_signal (h ∷ a ∷ rest))
-  corrected a rest gate clean =
-      let names = names_at is_defining before [] in
-      let done = measured_in before in
-      let marks = sound.made.marks in
-      let words = first_signal (h ∷ a ∷ rest) in
-      let first = first_live a rest (corrects (head_of h) gate).0 clean in
-      let good = first_signal_good constants before h (a ∷ rest) (corrects (head_of h) gate).1 clean in
-      let members = none_undone (bits_of marks) (signal_in names words)
-      (signal_done constants names done (bits_of marks) words sound.made.measured good) in
-      record {
-        qubit = first;
-        number = λ more. number_in-more names more a first.number first.place;
-        signal = λ more. signal_stays names more words (good_held constants names done words good);
-        rule = rule_one (length names) (bits_of marks) first.number (signal_in names words).members
-            first.below first.live members;
-        plain = λ none. good_plain constants names done words none good;
-      }
-    where
-      corrects : (hd : Option Head) → is_correcting hd ≡ true
-          → (has_operand hd ≡ true) × (is_defining hd ≡ false)
-      corrects None e = absurd (cc e)
-      corrects (Some X) e = (refl, refl)
-      corrects (Some Z) e = (refl, refl)
-      corrects (Some _) e = absurd (cc e)
+      both_plain x y e f = grind arith
 
   x_sound : (words : Words) → head_of h ≡ Some X
       → CleanWords (rules_with constants) before [] (h ∷ words)
@@ -485,20 +412,20 @@ module _ (half : ℕ) (constants : Bool) (before : Lines) (h : List ℕ)
   x_sound [] g clean = let clean' = rw g at clean.1 in absurd (cc clean')
   x_sound (a ∷ rest) g clean =
       let names = names_at is_defining before [] in
-      let order : may_follow (last_head before) (Some X) ≡ true =
-      rw (← g) (follows (a ∷ rest) clean) in
-      let next = corrected a rest (rw g refl) clean.1 in
+      let marks = sound.made.marks in
+      let first = first_live a rest (rw g refl) clean.1 in
       let words = first_signal (h ∷ a ∷ rest) in
-      pushed_sound (Some X) (a ∷ rest) (spelled_x a words)
-      (FixX next.qubit.number (signal_in names words)) (measured_in before) sound.made.marks g order
-      refl refl refl (λ e. cc e) refl refl (rw g refl)
-      (room (a ∷ rest) clean (rw g refl))
+      let s = first_terms constants before h (a ∷ rest) (bits_of marks) sound.made.measured
+      (rw g refl) clean.1 in
+      pushed_sound (a ∷ rest) (spelled_x a words) (FixX first.number (signal_in names words))
+      (measured_in before) marks (rw g refl) clean (rw g refl)
       (measured_other (a ∷ rest) (rw g refl)) (record {
-        is = λ more. rw (next.number more, next.signal more) refl;
+        is = λ more. rw (first.is more, s.stays more) refl;
         no_prep = refl;
-        typed = rising_in names words;
-        rule = next.rule;
-        plain = next.plain;
+        typed = s.rising;
+        rule = rule_one (length names) (bits_of marks) first.number (signal_in names words).members
+            first.below first.live s.done;
+        plain = s.plain;
       })
       refl refl sound.made.measured
 
@@ -508,20 +435,20 @@ module _ (half : ℕ) (constants : Bool) (before : Lines) (h : List ℕ)
   z_sound [] g clean = let clean' = rw g at clean.1 in absurd (cc clean')
   z_sound (a ∷ rest) g clean =
       let names = names_at is_defining before [] in
-      let order : may_follow (last_head before) (Some Z) ≡ true =
-      rw (← g) (follows (a ∷ rest) clean) in
-      let next = corrected a rest (rw g refl) clean.1 in
+      let marks = sound.made.marks in
+      let first = first_live a rest (rw g refl) clean.1 in
       let words = first_signal (h ∷ a ∷ rest) in
-      pushed_sound (Some Z) (a ∷ rest) (spelled_z a words)
-      (FixZ next.qubit.number (signal_in names words)) (measured_in before) sound.made.marks g order
-      refl refl refl (λ e. cc e) refl refl (rw g refl)
-      (room (a ∷ rest) clean (rw g refl))
+      let s = first_terms constants before h (a ∷ rest) (bits_of marks) sound.made.measured
+      (rw g refl) clean.1 in
+      pushed_sound (a ∷ rest) (spelled_z a words) (FixZ first.number (signal_in names words))
+      (measured_in before) marks (rw g refl) clean (rw g refl)
       (measured_other (a ∷ rest) (rw g refl)) (record {
-        is = λ more. rw (next.number more, next.signal more) refl;
+        is = λ more. rw (first.is more, s.stays more) refl;
         no_prep = refl;
-        typed = rising_in names words;
-        rule = next.rule;
-        plain = next.plain;
+        typed = s.rising;
+        rule = rule_one (length names) (bits_of marks) first.number (signal_in names words).members
+            first.below first.live s.done;
+        plain = s.plain;
       })
       refl refl sound.made.measured
 
@@ -607,8 +534,9 @@ module _ (half : ℕ) (constants : Bool) (before : Lines) (h : List ℕ)
       → CleanWords (rules_with constants) before [] (h ∷ words)
       → IsSound half constants (before ++ (h ∷ words) ∷ [])
   line_sound words None g clean =
-      let order = ap (may_follow (last_head before)) (sym g) ∙ follows words clean in
-      absurd (none_follows (last_head before) order)
+      let known = known_head (last_head before) (head_of h) (follows words clean) in
+      let known' = rw g at known in
+      absurd (cc known')
   line_sound words (Some In) g clean =
       let order : may_follow (last_head before) (Some In) ≡ true = rw (← g) (follows words clean) in
       first_sound words g (sound.start (first_line (last_head before) order)) clean
@@ -620,20 +548,9 @@ module _ (half : ℕ) (constants : Bool) (before : Lines) (h : List ℕ)
   line_sound words (Some Out) g clean = outputs_sound words g clean
   line_sound words (Some End) g clean = ended_sound words g clean
   line_sound words (Some other) g clean =
-      let order : may_follow (last_head before) (Some other) ≡ true =
-      rw (← g) (follows words clean) in
-      absurd (other_follows (last_head before) order)
-    where
-      other_follows : (last : Option Head) → may_follow last (Some other) ≡ true → ⊥
-      other_follows None e = cc e
-      other_follows (Some In) e = cc e
-      other_follows (Some N) e = cc e
-      other_follows (Some E) e = cc e
-      other_follows (Some M) e = cc e
-      other_follows (Some X) e = cc e
-      other_follows (Some Z) e = cc e
-      other_follows (Some Out) e = cc e
-      other_follows (Some _) e = cc e
+      let known = known_head (last_head before) (head_of h) (follows words clean) in
+      let known' = rw g at known in
+      absurd (cc known')
 
 pub sound_line : (half : ℕ) (constants : Bool) (before : Lines) (here : Words)
     → IsSound half constants before → CleanWords (rules_with constants) before [] here

@@ -6,7 +6,7 @@ ghost use Rattle.std.specs.Option.{option_map};
 ghost use Rattle.mc_angle.specs.Angle.{angle_of};
 ghost use Rattle.mc_model.specs.Bits.{bits_of};
 ghost use Rattle.mc_model.specs.Steps.{is_permitted};
-ghost use Rattle.mc_model.specs.Names.{is_name, place_of};
+ghost use Rattle.mc_model.specs.Names.{place_of};
 ghost use Rattle.mc_model.specs.Numbers.{is_member};
 ghost use Rattle.mc_model.specs.Signals.{no_signal};
 ghost use Rattle.mc_pattern.specs.Commands.{plain_command};
@@ -84,7 +84,6 @@ pub(crate) fn still(names: &Names, marks: &[bool], word: &[u8]) -> Result<u16, S
     ensures clean { OnOk result ((measured : List (List ℕ))
         → AreMarked names.now measured (bits_of marks.now)
         → still_name names.now measured word.now ≡ None) }
-    ensures name { OnOk result (is_name word.now ≡ true) }
     ensures place { IfOk result (λ q. place_of names.now word.now ≡ Some q) }
     ensures err { IfErr result (λ stop. (measured : List (List ℕ))
         → AreMarked names.now measured (bits_of marks.now)
@@ -106,7 +105,6 @@ fn take_first(names: &Names, marks: &[bool], first: &mut u16, word: &[u8]) -> Re
     ensures clean { OnOk result ((measured : List (List ℕ))
         → AreMarked names.now measured (bits_of marks.now)
         → still_name names.now measured word.now ≡ None) }
-    ensures name { OnOk result (is_name word.now ≡ true) }
     ensures place { OnOk result (place_of names.now word.now ≡ Some first.new) }
     ensures err { IfErr result (λ stop. (measured : List (List ℕ))
         → AreMarked names.now measured (bits_of marks.now)
@@ -190,7 +188,6 @@ fn take_member(names: &Names, marks: &[bool], signal: &mut Signal, word: &[u8]) 
     ensures clean { OnOk result ((measured words : List (List ℕ))
         → AreMarked names.now measured (bits_of marks.now) → IsSpelled names.now words signal.old
         → member_name names.now measured words word.now ≡ None) }
-    ensures name { OnOk result (is_name word.now ≡ true) }
     ensures joins { OnOk result (Joins names.now signal.old signal.new (word.now ∷ [])) }
     ensures err { IfErr result (λ stop. (measured words : List (List ℕ))
         → AreMarked names.now measured (bits_of marks.now) → IsSpelled names.now words signal.old
