@@ -2,13 +2,13 @@
 use Rattle.std.proofs.Common.{◌≡◌, ℕ, ◌<◌, List, [], ◌∷◌, ◌++◌, Bool, true, false, ◌||◌, ◌&&◌}
 use Rattle.std.proofs.Common.{Option, Some, None, length, refl, sym, subst, ap, ◌∙◌}
 use Rattle.std.proofs.Common.{arith, append_assoc, IsTrue, set, length-set, nat_le}
-use Rattle.std.proofs.Common.{length-append, nat_eq}
+use Rattle.std.proofs.Common.{nat_eq}
 use Rattle.std.proofs.Common.{not}
 use Rattle.std.specs.List.{list_all, list_any, IsDistinct}
 use Rattle.std.specs.Cmp.Lexicographic.{nat_list_eq_equiv}
 use Rattle.std.proofs.lemmas.Bool.Decides.{nat_tests}
 use Rattle.std.proofs.lemmas.List.{append-nil}
-use Rattle.std.proofs.lemmas.List.Elements.{All-push, filter_map-append}
+use Rattle.std.proofs.lemmas.List.Elements.{filter_map-append}
 use Rattle.std.proofs.lemmas.List.Folds.{list_all-append, list_any-append}
 use Rattle.std.proofs.lemmas.Map.Keys.{IsDistinct-push}
 use Rattle.mc_model.specs.Bits.{Bits, bits_of}
@@ -29,7 +29,7 @@ use Rattle.mc_text.proofs.Clean.{CleanWords}
 use Rattle.mc_text.proofs.Kept.{names_at-line, number_in-more}
 use Rattle.mc_text.proofs.Kept.{operands_at-some, operands_at-none}
 use Rattle.mc_text.proofs.Numbers.{place-held, place-same}
-use Rattle.mc_text.proofs.Unbroken.{holds_by, known_is, new_is, next_none, unbroken, unpassed}
+use Rattle.mc_text.proofs.Unbroken.{holds_by, known_is, names_push, next_none, unbroken, unpassed}
 use Rattle.mc_text.proofs.Members.{name_eq-same, place-below}
 use Rattle.mc_pattern.specs.Rules.{marked, is_undone}
 use Rattle.mc_pattern.proofs.Built.{marks_set}
@@ -92,18 +92,6 @@ sound_start half constants permitted = record {
 }
 
 -- names with nothing against them
-names_push : (names : List Name) (word : Name) → AreNames names → new_name names word ≡ None
-    → AreNames (names ++ word ∷ [])
-names_push names word h clean =
-    let is = new_is names word clean in
-    let room = is.2 in
-    let long = length-append names (word ∷ []) in
-    record {
-      distinct = IsDistinct-push nat_list_eq_equiv names word h.distinct is.1;
-      valid = All-push (λ (name : Name). IsTrue (is_name name)) names word h.valid is.0;
-      few = omega arith;
-    }
-
 inputs_named : (constants : Bool) (h : List ℕ) (ws ps : List Name) → head_of h ≡ Some In
     → AreNames ws → CleanWords (rules_with constants) [] (h ∷ ws) ps → AreNames (ws ++ ps)
 inputs_named constants h ws [] g valid clean = rw (append-nil ws) valid

@@ -1,8 +1,11 @@
 -- Words with nothing against them: what the rules of words say then.
 use Rattle.std.proofs.Common.{◌≡◌, ℕ, ◌<◌, List, [], ◌∷◌, Bool, true, false, not, Option, Some, None}
-use Rattle.std.proofs.Common.{refl, arith, length, nat_le}
+use Rattle.std.proofs.Common.{refl, arith, length, length-append, nat_le, ◌++◌, IsTrue}
+use Rattle.std.specs.Cmp.Lexicographic.{nat_list_eq_equiv}
 use Rattle.std.proofs.lemmas.Bool.Decides.{nat_tests}
-use Rattle.mc_model.specs.Names.{is_name, is_held}
+use Rattle.std.proofs.lemmas.List.Elements.{All-push}
+use Rattle.std.proofs.lemmas.Map.Keys.{IsDistinct-push}
+use Rattle.mc_model.specs.Names.{AreNames, is_name, is_held}
 use Rattle.mc_text.specs.declared.fault.Fault.{Fault}
 use Rattle.mc_text.specs.declared.fault.Fault.TheVariants.{NotName, NotDefined, DefinedTwice}
 use Rattle.mc_text.specs.declared.fault.Fault.TheVariants.{ListedTwice}
@@ -56,3 +59,16 @@ new_is names word clean =
   where
     room : (n : ℕ) → nat_le 256 n ≡ false → n < 256
     room n full = grind (arith, nat_tests)
+
+-- which goes behind the others
+pub names_push : (names : List (List ℕ)) (word : List ℕ) → AreNames names
+    → new_name names word ≡ None → AreNames (names ++ word ∷ [])
+names_push names word h clean =
+    let is = new_is names word clean in
+    let room = is.2 in
+    let long = length-append names (word ∷ []) in
+    record {
+      distinct = IsDistinct-push nat_list_eq_equiv names word h.distinct is.1;
+      valid = All-push (λ (name : List ℕ). IsTrue (is_name name)) names word h.valid is.0;
+      few = omega arith;
+    }
