@@ -1,7 +1,7 @@
 -- What is kept of the rows of a change, with one row more.
 use Rattle.std.proofs.Common.{◌≡◌, ℕ, suc, Bool, true, false, List, [], ◌∷◌, ◌++◌, length}
 use Rattle.std.proofs.Common.{Option, Some, None, slice_get, refl, sym, ap, ◌∙◌, arith, inl, inr}
-use Rattle.std.proofs.Common.{length-append}
+use Rattle.std.proofs.Common.{length-append, not}
 use Rattle.std.proofs.Math.Seq.{take-append_seam}
 use Rattle.std.proofs.lemmas.Bool.{eqb-true}
 use Rattle.std.proofs.lemmas.List.{map-append, length-map, take-append-le}
@@ -14,7 +14,7 @@ use Rattle.mc_text.specs.declared.head.Head.{Head}
 use Rattle.mc_text.specs.declared.head.Head.TheVariants.{O, End}
 use Rattle.mc_text.specs.declared.fault.Fault.TheVariants.{OtherRow, NotMeasured}
 use Rattle.mc_text.specs.Heads.{is_end}
-use Rattle.mc_text.proofs.Unbroken.{holds_by}
+use Rattle.mc_text.proofs.Unbroken.{not_false, unbroken}
 use Rattle.mc_rows.specs.declared.row.Row.{Row}
 use Rattle.mc_rows.specs.Kept.{Passes}
 use Rattle.mc_rows.proofs.Printing.{taken_more}
@@ -60,8 +60,9 @@ pub kept_more : (second : Bool) (order : List ℕ) (change change' : List Change
 kept_more second order change change' rows row more rising passes h =
     let head = row_head passes.follows.0 row.head passes.follows.1 passes.goes in
     let named = passes.named (rw head refl) in
+    let this = is_this (slice_get order (length rows)) row.name in
     let due = this_one (slice_get order (length rows)) row.name
-    (holds_by (is_this (slice_get order (length rows)) row.name) OtherRow [] named).0 in
+    (not_false this (unbroken (not this) OtherRow [] named).0) in
     let names : names_of (rows ++ row ∷ []) ≡ names_of rows ++ row.name ∷ [] =
     map-append (λ (r : Row). r.name) rows (row ∷ []) in
     let count = length-append rows (row ∷ []) in
@@ -74,7 +75,9 @@ kept_more second order change change' rows row more rising passes h =
       due = rw (names, next, h.due) (sym (taken_more order (length rows) row.name due));
       earlier = rw (more, names)
           (earlier_more (names_of rows) row.name change (change_row row) len h.earlier
-          (λ q is. (holds_by (is_member (names_of rows) q) NotMeasured [] (passes.listed q is)).0));
+          (λ q is.
+          let listed = is_member (names_of rows) q in
+          not_false listed (unbroken (not listed) NotMeasured [] (passes.listed q is)).0));
       sets = rw more
           (All-push (λ (r : ChangeRow). IsRising r.signal.members) change (change_row row) h.sets
           rising);

@@ -25,7 +25,7 @@ pub record IsGrown (half : ℕ) (s : Spelled) (g : OpenGraph) : Type 0 where
 -- words with nothing against them
 pub new_free : (names : List Name) (word : Name) → new_name names word ≡ None
     → is_held names word ≡ false
-new_free names word clean = (new_is names word clean).1
+new_free names word clean = (new_is names word clean).free
 
 pub other_held : (s : Spelled) (a word : Name) → other_name s (Some a) word ≡ None
     → is_held s.names word ≡ true

@@ -2,9 +2,9 @@
 use Rattle.std.proofs.Common.{◌≡◌, ℕ, zero, suc, ◌+◌, ◌*◌, ◌<◌, ◌≤◌, List}
 use Rattle.std.proofs.Common.{[], ◌∷◌, ◌++◌, Bool}
 use Rattle.std.proofs.Common.{true}
-use Rattle.std.proofs.Common.{false, ◌&&◌, ◌==◌, Option, Some, None, length, map, take, drop, codes}
-use Rattle.std.proofs.Common.{refl, sym, ap, ap₂, ◌∙◌, arith, cond, IsTrue, if◌then◌else◌, ◌⊎◌}
-use Rattle.std.proofs.Common.{inl, inr, length-append}
+use Rattle.std.proofs.Common.{false, ◌&&◌, Option, Some, None, length, map, take, drop, codes}
+use Rattle.std.proofs.Common.{refl, sym, ap, ap₂, ◌∙◌, arith, cond, IsTrue}
+use Rattle.std.proofs.Common.{length-append}
 use Rattle.std.specs.Prelude.{is_some, unwrap_or, option_map, All}
 use Rattle.std.specs.Fmt.{decimal}
 use Rattle.std.specs.List.{flat_map, list_all, IsDistinct, AllByRecursion}
@@ -23,10 +23,11 @@ use Rattle.mc_model.specs.Graph.{fixed_at, not_fixed}
 use Rattle.mc_model.proofs.StepLemmas.{permitted_at_most}
 use Rattle.mc_angle.specs.Angle.{angle_of}
 use Rattle.mc_angle.proofs.Numerals.{number-decimal, angle-decimal}
-use Rattle.mc_write.specs.Text.{text_of}
 use Rattle.mc_write.specs.Named.{name_at}
-use Rattle.mc_text.specs.Headers.{header_words, version_word, turn_words}
+use Rattle.mc_text.specs.Headers.{header_words}
 use Rattle.mc_text.specs.Judged.{Lines, words_of, section_lines}
+use Rattle.mc_text.proofs.HeadersBack.{header_line, known_version, permitted_half}
+use Rattle.mc_text.proofs.HeadersWritten.{header_written}
 use Rattle.mc_text.proofs.Written.{is_written, is_written_line}
 use Rattle.mc_text.proofs.Clean.{IsRead, written_read}
 use Rattle.mc_text.proofs.Naming.{is_name-name_at, numbers-name_at, name_written, number_written}
@@ -269,22 +270,6 @@ fixed_written names v false true valid lt = rw (at_written names v valid lt) ref
 fixed_written names v true false valid lt = rw (at_written names v valid lt) refl
 fixed_written names v true true valid lt = rw (at_written names v valid lt) refl
 
-version_written : (b : Bool) → is_written (version_word (if b then 2 else 1)) ≡ true
-version_written true = refl
-version_written false = refl
-
-turn_written : (half : ℕ) → list_all is_written (turn_words half) ≡ true
-turn_written half = by_test (half == 8)
-  where
-    by_test : (t : Bool) →
-        list_all is_written (if t then codes "turn" ∷ codes "16" ∷ [] else []) ≡ true
-    by_test true = refl
-    by_test false = refl
-
-header_written : (half : ℕ) (g : OpenGraph) →
-    is_written_line (header_words kind.Graph (graph_version g) half) ≡ true
-header_written half g = rw (version_written (has_fixed g), turn_written half) refl
-
 graph_written : (half : ℕ) (g : OpenGraph) → IsGraph half g →
     list_all is_written_line (header_words kind.Graph (graph_version g) half ∷ graph_lines g) ≡ true
 graph_written half g h =
@@ -302,7 +287,7 @@ graph_written half g h =
     let out = codes "out" ∷ map (name_at g.names) g.outputs in
     let last = (codes "end" ∷ []) ∷ [] in
     rw (
-      header_written half g,
+      header_written kind.Graph (graph_version g) half,
       ins,
       list_all-append is_written_line (map vertex_line (drop g.inputs g.names))
           (map (edge_line g.names) g.edges ++ (angle_part g ++ out ∷ (fixed_part g ++ last))),
@@ -340,20 +325,9 @@ same_text half g k h i e =
 
 -- ---- the header
 
-first_words : (half : ℕ) (b : Bool) (lines : Lines) → (half ≡ 4) ⊎ (half ≡ 8) →
-    map (λ line. words_of line.items)
-    (take 1 (lines_of (text_of (header_words kind.Graph (if b then 2 else 1) half ∷ lines))))
-    ≡ header_words kind.Graph (if b then 2 else 1) half ∷ []
-first_words half true lines (inl e) = rw e refl
-first_words half true lines (inr e) = rw e refl
-first_words half false lines (inl e) = rw e refl
-first_words half false lines (inr e) = rw e refl
-
-four_or_eight : (half : ℕ) → IsTrue (is_permitted half) → (half ≡ 4) ⊎ (half ≡ 8)
-four_or_eight half permitted = grind arith
-
 pub header_back : (half : ℕ) (g : OpenGraph) → IsTrue (is_permitted half) →
     map (λ line. words_of line.items) (take 1 (lines_of (graph_text half g)))
     ≡ header_words kind.Graph (graph_version g) half ∷ []
 header_back half g permitted =
-    first_words half (has_fixed g) (graph_lines g) (four_or_eight half permitted)
+    header_line kind.Graph (graph_version g) half (graph_lines g) (known_version (has_fixed g))
+    (permitted_half half permitted)

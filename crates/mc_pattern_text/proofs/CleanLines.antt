@@ -11,7 +11,7 @@ use mathlib.Core.Logic.{inl, inr}
 use Rattle.mc_angle.specs.Number.{is_number, is_digit}
 use Rattle.std.proofs.lemmas.Bool.{and_parts, or_left, or_right}
 use Rattle.std.proofs.lemmas.Bool.Decides.{nat_tests}
-use Rattle.std.proofs.lemmas.List.{append-nil, length-take-le, map-append}
+use Rattle.std.proofs.lemmas.List.{append-nil, map-append}
 use Rattle.mc_model.specs.Names.{Name, AreNames, is_name, is_name_byte}
 use Rattle.mc_model.specs.Signals.{Signal}
 use Rattle.mc_model.specs.Pattern.{Command, Prep, Ent, Meas, FixX, FixZ, has_constant}
@@ -34,7 +34,8 @@ use Rattle.mc_text.specs.Lists.{names_at}
 use Rattle.mc_text.proofs.Going.{head_at}
 use Rattle.mc_text.proofs.Kept.{count_at, name_no_mark}
 use Rattle.mc_text.proofs.Clean.{CleanWords}
-use Rattle.mc_text.proofs.Naming.{is_name-name_at, distinct_front, names_apart}
+use Rattle.mc_text.proofs.Naming.{is_name-name_at, names_apart}
+use Rattle.mc_text.proofs.Members.{first_new}
 use Rattle.mc_pattern.proofs.Members.{below_by}
 use Rattle.mc_rows.specs.Written.{set_words}
 use Rattle.mc_rows.proofs.Lines.{all_front, among, free, named_all}
@@ -335,17 +336,11 @@ module _ (constants : Bool) (before : Lines) (w a : List ℕ) (no_w : mark_of w 
 new_clean : (ns : List Name) (m : ℕ) → AreNames ns → m < length ns
     → new_name (take m ns) (name_at ns m) ≡ None
 new_clean ns m valid lt =
-    let named = is_name-name_at ns m valid lt in
-    let distinct = rw (split_at ns m lt) at valid.distinct in
-    let free = distinct_front (take m ns) (name_at ns m) (drop (suc m) ns) distinct in
-    let long = length-take-le m ns (omega arith) in
+    let parts = split_at ns m lt in
     let few = valid.few in
-    let room : nat_le 256 (length (take m ns)) ≡ false =
-    late (length (take m ns)) (omega (arith, long, few)) in
-    rw (named, free, room) refl
-  where
-    late : (n : ℕ) → n < 256 → nat_le 256 n ≡ false
-    late n lt = grind (arith, nat_tests)
+    let whole = ap length parts in
+    first_new (take m ns) (name_at ns m) (drop (suc m) ns) (is_name-name_at ns m valid lt)
+    (rw parts at valid.distinct) (omega (arith, few, whole))
 
 prepared_one : (q : ℕ) → prepared (Prep q ∷ []) ≡ 1
 unfolding prepared

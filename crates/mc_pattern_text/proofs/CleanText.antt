@@ -2,13 +2,12 @@
 use Rattle.std.proofs.Common.{◌≡◌, ℕ, zero, suc, ◌+◌, ◌<◌, ◌≤◌, Bool, true, false, not, ◌||◌, All}
 use Rattle.std.proofs.Common.{List, [], ◌∷◌, ◌++◌, length, map, take, drop, codes, refl, sym, ap}
 use Rattle.std.proofs.Common.{◌∙◌, append_assoc, length-append, arith, eq-eqb, nat_eq}
-use Rattle.std.proofs.Common.{nat_le, Option, Some, IsTrue, cond, count_by, get_or}
+use Rattle.std.proofs.Common.{Option, Some, IsTrue, cond, count_by, get_or}
 use Rattle.std.specs.Option.{unwrap_or}
 use Rattle.std.proofs.Math.Seq.{take-length}
 use Rattle.std.proofs.lemmas.Option.{slice_get-get_or}
 use Rattle.std.specs.List.{filter_map, flat_map, list_all, list_any, IsDistinct}
 use Rattle.std.proofs.lemmas.Bool.{and_parts, cases_Bool, or_left, or_right}
-use Rattle.std.proofs.lemmas.Bool.Decides.{nat_tests}
 use Rattle.std.proofs.lemmas.List.{append-nil, map-append, length-take-le, take-append-drop}
 use Rattle.std.proofs.lemmas.List.Elements.{filter_map-append}
 use Rattle.std.proofs.lemmas.List.Sums.{sum_by-append, sum_by-cons, list_all-from_AllPass}
@@ -31,7 +30,7 @@ use Rattle.mc_text.specs.Judged.{Words, Lines}
 use Rattle.mc_text.specs.Lists.{names_in, names_at, operand_at}
 use Rattle.mc_text.proofs.Kept.{names_at-line}
 use Rattle.mc_text.proofs.Clean.{CleanWords, Clean, last, more}
-use Rattle.mc_text.proofs.Naming.{distinct_front}
+use Rattle.mc_text.proofs.Members.{first_new}
 use Rattle.mc_pattern_text.specs.Roles.{may_follow, follows_command, is_defining}
 use Rattle.mc_pattern_text.specs.Roles.{is_measuring, is_output}
 use Rattle.mc_pattern_text.specs.Value.{spelled_command, spelled_commands}
@@ -165,16 +164,11 @@ inputs_clean : (constants : Bool) (ws ps : List Name) → list_all is_name ps �
 inputs_clean constants ws [] named distinct few = rw (role_at [] (codes "in") ws) refl
 inputs_clean constants ws (p ∷ ps) named distinct few =
     let both = and_parts (is_name p) (list_all is_name ps) named in
-    let free = distinct_front ws p ps distinct in
-    let long = length-append ws (p ∷ ps) in
-    let room : nat_le 256 (length ws) ≡ false = late (length ws) (omega (arith, long, few)) in
+    let new = first_new ws p ps both.0 distinct few in
     let next : (ws ++ p ∷ []) ++ ps ≡ ws ++ (p ∷ ps) = append_assoc ws (p ∷ []) ps in (
-      rw (role_at [] (codes "in") ws, both.0, free, room) refl,
+      rw (role_at [] (codes "in") ws) new,
       inputs_clean constants (ws ++ p ∷ []) ps both.1 (rw next distinct) (rw next few),
     )
-  where
-    late : (n : ℕ) → n < 256 → nat_le 256 n ≡ false
-    late n lt = grind (arith, nat_tests)
 
 -- the outputs
 record AreDue (ns : List Name) (done : List Command) (qs : List ℕ) : Type 0 where

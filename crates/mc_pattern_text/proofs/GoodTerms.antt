@@ -23,7 +23,8 @@ use Rattle.mc_text.proofs.Going.{point_of-more}
 use Rattle.mc_text.proofs.Places.{words_by-last}
 use Rattle.mc_text.specs.declared.fault.Fault.TheVariants.{NotMeasured}
 use Rattle.mc_text.specs.Rules.{number_in, broken, listed_name}
-use Rattle.mc_text.proofs.Unbroken.{holds_by, listed_is, next_none}
+use Rattle.mc_text.specs.Rules.{known_name}
+use Rattle.mc_text.proofs.Unbroken.{known_is, listed_is, next_none, not_false, unbroken}
 use Rattle.mc_text.proofs.Numbers.{place-held}
 use Rattle.mc_rows.specs.Rows.{is_one, has_one, named}
 use Rattle.mc_rows.proofs.RisingSets.{member_where, rising_where}
@@ -52,8 +53,10 @@ member_good constants names measured signal word clean =
     let late = (not (is_held measured word), NotMeasured) ∷ [] in
     let both = next_none (listed_name names (named signal) word) (broken late) clean in
     let listed = listed_is names (named signal) word both.0 in
-    let early = (holds_by (is_held measured word) NotMeasured [] both.1).0 in
-    rw (name_no_one word listed.0, listed.1, early) refl
+    let known = known_is names word (next_none (known_name names word) _ both.0).0 in
+    let early = not_false (is_held measured word)
+    (unbroken (not (is_held measured word)) NotMeasured [] both.1).0 in
+    rw (name_no_one word known.0, listed.0, early) refl
 
 term_good : (constants : Bool) (names measured : List (List ℕ)) (signal : Words)
     (word : List ℕ) → term_word constants names measured signal word ≡ None

@@ -2,7 +2,6 @@
 use Rattle.std.proofs.Common.{◌≡◌, ℕ, zero, suc, ◌+◌, ◌<◌, ◌≤◌, Bool, true, false, All, List, []}
 use Rattle.std.proofs.Common.{◌∷◌, ◌++◌, length, map, take, codes, refl, sym, ap, ap₂, ◌∙◌}
 use Rattle.std.proofs.Common.{append_assoc, arith, Option, Some, None, IsTrue, if◌then◌else◌}
-use Rattle.std.proofs.Common.{◌==◌, ◌⊎◌, inl, inr}
 use Rattle.std.proofs.lemmas.Bool.{and_parts}
 use Rattle.std.specs.Option.{option_map}
 use Rattle.std.specs.Fmt.{decimal}
@@ -14,7 +13,6 @@ use Rattle.std.proofs.lemmas.List.Folds.{list_all-append}
 use Rattle.std.proofs.lemmas.List.Sums.{list_all-from_AllPass}
 use Rattle.mc_lex.specs.declared.kind.Kind.TheVariants as kind
 use Rattle.mc_lex.specs.Lines.{lines_of, end_of}
-use Rattle.mc_write.specs.Text.{text_of}
 use Rattle.mc_write.specs.Named.{name_at}
 use Rattle.mc_angle.proofs.Numerals.{angle-decimal, number-decimal}
 use Rattle.mc_model.specs.Names.{Name, AreNames, is_name}
@@ -30,13 +28,15 @@ use Rattle.mc_text.specs.declared.head.Head.{Head}
 use Rattle.mc_text.specs.declared.point.Mark.{Mark}
 use Rattle.mc_text.specs.declared.point.Mark.TheVariants.{S, T}
 use Rattle.mc_text.specs.Points.{mark_of}
-use Rattle.mc_text.specs.Headers.{header_words, version_word, turn_words}
+use Rattle.mc_text.specs.Headers.{header_words}
 use Rattle.mc_text.specs.Judged.{Words, Lines, words_of, section_lines}
 use Rattle.mc_text.specs.Lists.{names_in, names_at}
 use Rattle.mc_text.proofs.Kept.{name_no_mark}
 use Rattle.mc_text.proofs.Clean.{IsRead, written_read}
 use Rattle.mc_text.proofs.Naming.{number-name_at, numbers-name_at, is_name-name_at, name_written}
 use Rattle.mc_text.proofs.Naming.{number_written}
+use Rattle.mc_text.proofs.HeadersBack.{header_line, known_version, permitted_half}
+use Rattle.mc_text.proofs.HeadersWritten.{header_written}
 use Rattle.mc_text.proofs.Written.{is_written, is_written_line}
 use Rattle.mc_pattern_text.specs.Roles.{is_defining, is_input, is_output}
 use Rattle.mc_pattern_text.specs.Roles.{Role, opening, first_term, second_term, role_behind}
@@ -122,23 +122,6 @@ commands_written half ns (c ∷ cs) valid permitted named typed =
     let rest = commands_written half ns cs valid permitted named.1 typed.1 in
     rw (first, rest) refl
 
-version_written : (b : Bool) → is_written (version_word (if b then 2 else 1)) ≡ true
-version_written true = refl
-version_written false = refl
-
-turn_written : (half : ℕ) → list_all is_written (turn_words half) ≡ true
-turn_written half = by_test (half == 8)
-  where
-    by_test : (t : Bool)
-        → list_all is_written (if t then codes "turn" ∷ codes "16" ∷ [] else []) ≡ true
-    by_test true = refl
-    by_test false = refl
-
-header_written : (half : ℕ) (p : Pattern)
-    → is_written_line (header_words kind.Pattern (pattern_version p) half) ≡ true
-header_written half p =
-    rw (version_written (list_any has_constant p.commands), turn_written half) refl
-
 pattern_written : (half : ℕ) (p : Pattern) → IsPattern half p → IsTrue (is_permitted half)
     → list_all is_written_line
     (header_words kind.Pattern (pattern_version p) half ∷ pattern_lines p) ≡ true
@@ -152,7 +135,7 @@ pattern_written half p h permitted =
     let out = codes "out" ∷ map (name_at p.names) p.outputs in
     let end = (codes "end" ∷ []) ∷ [] in
     rw (
-      header_written half p,
+      header_written kind.Pattern (pattern_version p) half,
       inputs,
       list_all-append is_written_line (map (command_line p.names) p.commands) (out ∷ end),
       commands,
@@ -353,21 +336,9 @@ same_text half p q h k permitted e =
     ∙ text_back half q k permitted
 
 -- the header
-first_words : (half : ℕ) (b : Bool) (lines : Lines) → (half ≡ 4) ⊎ (half ≡ 8)
-    → map (λ line. words_of line.items)
-    (take 1 (lines_of (text_of (header_words kind.Pattern (if b then 2 else 1) half ∷ lines))))
-    ≡ header_words kind.Pattern (if b then 2 else 1) half ∷ []
-first_words half true lines (inl e) = rw e refl
-first_words half true lines (inr e) = rw e refl
-first_words half false lines (inl e) = rw e refl
-first_words half false lines (inr e) = rw e refl
-
-four_or_eight : (half : ℕ) → IsTrue (is_permitted half) → (half ≡ 4) ⊎ (half ≡ 8)
-four_or_eight half permitted = grind arith
-
 pub header_back : (half : ℕ) (p : Pattern) → IsTrue (is_permitted half)
     → map (λ line. words_of line.items) (take 1 (lines_of (pattern_text half p)))
     ≡ header_words kind.Pattern (pattern_version p) half ∷ []
 header_back half p permitted =
-    first_words half (list_any has_constant p.commands) (pattern_lines p)
-    (four_or_eight half permitted)
+    header_line kind.Pattern (pattern_version p) half (pattern_lines p)
+    (known_version (list_any has_constant p.commands)) (permitted_half half permitted)

@@ -29,7 +29,8 @@ use Rattle.mc_text.proofs.Clean.{CleanWords}
 use Rattle.mc_text.proofs.Kept.{names_at-line, number_in-more}
 use Rattle.mc_text.proofs.Kept.{operands_at-some, operands_at-none}
 use Rattle.mc_text.proofs.Numbers.{place-held, place-same}
-use Rattle.mc_text.proofs.Unbroken.{holds_by, known_is, names_push, next_none, unbroken, unpassed}
+use Rattle.mc_text.proofs.Unbroken.{known_is, names_push, next_none, not_false}
+use Rattle.mc_text.proofs.Unbroken.{unbroken, unpassed}
 use Rattle.mc_text.proofs.Members.{name_eq-same, place-below}
 use Rattle.mc_pattern.specs.Rules.{marked, is_undone}
 use Rattle.mc_pattern.proofs.Built.{marks_set}
@@ -235,7 +236,7 @@ module _ (half : ℕ) (constants : Bool) (before : Lines) (h : List ℕ)
       let order = may_follow (last_head before) (head_of h) in
       let full = is_command (head_of h) && nat_le 262144 (length (spelled_commands before)) in
       let both = next_none (broken ((not order, NotFixed) ∷ [])) (passed full 3 262145) clean.0 in
-      ((holds_by order NotFixed [] both.0).0, unpassed full 3 262145 both.1)
+      (not_false order (unbroken (not order) NotFixed [] both.0).0, unpassed full 3 262145 both.1)
 
   follows : (words : Words) → CleanWords (rules_with constants) before [] (h ∷ words)
       → may_follow (last_head before) (head_of h) ≡ true
@@ -469,7 +470,8 @@ module _ (half : ℕ) (constants : Bool) (before : Lines) (h : List ℕ)
       let role : role_of (point_of before (h ∷ listed)) ≡ output =
       role_at before h listed ∙ rw g refl in
       let clean' : lacks_by k output ≡ None = rw role at clean in
-      let all = (holds_by (list_all (is_settled k.measured k.listed) k.names) OutputsLack [] clean').0 in
+      let settled = list_all (is_settled k.measured k.listed) k.names in
+      let all = not_false settled (unbroken (not settled) OutputsLack [] clean').0 in
       let outs = listed_here listed g none in
       let stay = names_stay is_defining before h listed (rw g refl) in
       let all' : list_all (is_settled (measured_in before) listed) names ≡ true =

@@ -27,7 +27,7 @@ use Rattle.mc_pattern.specs.Patterns.{IsPattern}
 use Rattle.mc_pattern_text.specs.Roles.{is_defining, is_output}
 use Rattle.mc_pattern_text.specs.Value.{command_by, spelled_commands, pattern_of}
 use Rattle.mc_pattern_text.specs.Judge.{measured_in, is_settled, rules_with}
-use Rattle.mc_text.proofs.GoesOn.{behind_clean_lines}
+use Rattle.mc_text.proofs.Behind.{behind_clean}
 use Rattle.mc_pattern_text.proofs.Marked.{marked-name}
 use Rattle.mc_pattern_text.proofs.SoundLines.{IsSound, is_still, sound_start, sound_line}
 
@@ -106,7 +106,7 @@ clean_is_sound : (half : ℕ) (constants : Bool) (lines : List Line) (end : Plac
     → IsTrue (is_permitted half) → first_in_section (rules_with constants) [] lines end ≡ None
     → IsSound half constants (section_lines lines)
 clean_is_sound half constants lines end permitted clean =
-    behind_clean_lines (rules_with constants) (IsSound half constants) (sound_line half constants) lines
+    behind_clean (rules_with constants) (IsSound half constants) (sound_line half constants) lines
     end (sound_start half constants permitted) clean
 
 pub clean_is_pattern : (half : ℕ) (constants : Bool) (lines : List Line) (end : Place)

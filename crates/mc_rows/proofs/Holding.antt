@@ -1,5 +1,5 @@
 -- What holds of the rows of a section without a fault, one row after another.
-use Rattle.std.proofs.Common.{◌≡◌, ℕ, List, [], ◌∷◌, ◌++◌, Bool, true, false, ◌&&◌, Option, Some}
+use Rattle.std.proofs.Common.{◌≡◌, ℕ, List, [], ◌∷◌, ◌++◌, Bool, true, false, ◌&&◌, Some}
 use Rattle.std.proofs.Common.{None, refl, sym, ap, ◌∙◌, subst, inl}
 use Rattle.std.proofs.Common.{map, length}
 use Rattle.std.proofs.lemmas.List.{append-nil}
@@ -13,11 +13,11 @@ use Rattle.mc_signal.proofs.Members.{is_member-toggled}
 use Rattle.mc_text.specs.declared.head.Head.TheVariants.{End}
 use Rattle.mc_text.specs.Heads.{head_of, head_in, is_end}
 use Rattle.mc_text.specs.Points.{point_of}
-use Rattle.mc_text.specs.Judged.{Judgement, Words, Lines, Place, first_in_section, section_lines}
-use Rattle.mc_text.specs.Rules.{number_in, or_next, listed_name}
+use Rattle.mc_text.specs.Judged.{Words, Lines, Place, first_in_section, section_lines}
+use Rattle.mc_text.specs.Rules.{number_in, known_name, listed_name}
 use Rattle.mc_text.proofs.Going.{head_at}
 use Rattle.mc_text.proofs.Numbers.{held-place, place-held}
-use Rattle.mc_text.proofs.Unbroken.{listed_is, next_none}
+use Rattle.mc_text.proofs.Unbroken.{known_is, listed_is, next_none}
 use Rattle.mc_rows.specs.declared.row.Row.{Row}
 use Rattle.mc_rows.specs.declared.row.Role.{Role}
 use Rattle.mc_rows.specs.declared.row.Role.TheVariants as role
@@ -106,7 +106,8 @@ module _ (kind : Kind) (names : List Name) (H : List Row → Type 0) where
       let due = rw e at clean in
       let both = next_none (listed_name names (named members) word) _ due in
       let listed = listed_is names (named members) word both.0 in
-      let found = place-held names word listed.1 in
+      let is_named = (known_is names word (next_none (known_name names word) _ both.0).0).0 in
+      let found = place-held names word listed.0 in
       let q = found.0 in
       let place = found.1 in
       let number = number_is names word q place in
@@ -115,7 +116,7 @@ module _ (kind : Kind) (names : List Name) (H : List Row → Type 0) where
       rw are.set_is
       (rising_where (is_member (map (number_in names) (named members))) (length names)) in
       let absent : is_member row.set q ≡ false =
-      has-listed names members row.set row.constant word q place are ∙ listed.2 in
+      has-listed names members row.set row.constant word q place are ∙ listed.1 in
       let bar : (rows : List Row) → Holds before rows → kind.bars.listed rows q ≡ None =
       λ rows held.
       subst (λ (k : ℕ). kind.bars.listed rows k ≡ None) number (rw held.0 both.1) in
@@ -125,9 +126,9 @@ module _ (kind : Kind) (names : List Name) (H : List Row → Type 0) where
         row = row';
         kept = (took_member kind names (Holds before) row row' before here (point_of before here)
             word is
-            (λ rows list held are'. judged_once rows list row.set row.constant q place listed.0
+            (λ rows list held are'. judged_once rows list row.set row.constant q place is_named
             are' absent (bar rows held))
-            (λ list are'. joins_name names list row.set set row.constant word q listed.0 place
+            (λ list are'. joins_name names list row.set set row.constant word q is_named place
             are' absent refl)
             (λ rows held p member. joined_by row.set set p q (kind.bars.listed rows p ≡ None)
             (is_member-toggled q row.set p rising) member

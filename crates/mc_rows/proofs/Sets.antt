@@ -3,15 +3,14 @@ use Rattle.std.proofs.Common.{◌≡◌, ℕ, zero, suc, ◌<◌, List, [], ◌�
 use Rattle.std.proofs.Common.{◌&&◌, ◌||◌, Some, None, length, map, refl, sym, ap, ◌∙◌, arith}
 use Rattle.std.proofs.Common.{nat_eq}
 use Rattle.std.proofs.Common.{nat_lt, codes, ◌⊎◌}
-use Rattle.std.specs.List.{list_all, list_any, filter}
+use Rattle.std.specs.List.{filter}
 use Rattle.std.proofs.lemmas.Bool.{cases_Bool}
 use mathlib.Core.Logic.{inl, inr}
 use Rattle.std.proofs.lemmas.Bool.Decides.{nat_tests}
 use Rattle.std.proofs.lemmas.List.{append-nil, map-append}
 use Rattle.std.proofs.lemmas.List.Folds.{list_any-append, list_all-append}
-use Rattle.std.proofs.lemmas.List.Quantifiers.{position-Some}
 use Rattle.mc_model.specs.Bits.{◌⊻◌}
-use Rattle.mc_model.specs.Names.{name_eq, is_name, is_held, place_of}
+use Rattle.mc_model.specs.Names.{is_name, is_held, place_of}
 use Rattle.mc_model.specs.Numbers.{is_member, numbers_from}
 use Rattle.mc_model.specs.Signals.{toggled}
 use Rattle.mc_names.specs.Stored.{name_eq-true}

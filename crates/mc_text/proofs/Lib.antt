@@ -8,10 +8,12 @@ pub mod Listed
 pub mod Sections
 pub mod Written
 pub mod Clean
+pub mod Behind
+pub mod Unbroken
+pub mod HeadersWritten
 pub mod Naming
 pub mod HeadersBack
 pub mod GoesOn
 pub mod NoLimits
 pub mod Places
-pub mod Unbroken
 pub mod Members

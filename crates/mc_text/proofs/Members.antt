@@ -1,15 +1,17 @@
 -- The numbers of names, among those of lists of names, and tests of every name.
-use Rattle.std.proofs.Common.{◌≡◌, ℕ, ◌<◌, List, [], ◌∷◌, Bool, true, false, Some, length, map, get_or}
-use Rattle.std.proofs.Common.{refl, sym, ap, ◌∙◌, arith, nat_eq}
-use Rattle.std.specs.List.{list_any, list_all}
+use Rattle.std.proofs.Common.{◌≡◌, ℕ, ◌<◌, ◌≤◌, List, [], ◌∷◌, ◌++◌, Bool, true, false, Some, None}
+use Rattle.std.proofs.Common.{length, map, get_or, refl, sym, ap, ◌∙◌, arith, nat_eq, nat_le}
+use Rattle.std.proofs.Common.{length-append}
+use Rattle.std.specs.List.{list_any, list_all, IsDistinct}
 use Rattle.std.proofs.lemmas.Bool.Decides.{nat_tests, Decides-eqb}
 use Rattle.std.proofs.lemmas.List.Quantifiers.{position-Some}
 use Rattle.std.proofs.lemmas.List.Sums.{AllPass-from_list_all, list_all-from_AllPass}
 use Rattle.std.proofs.lemmas.Slice.Eq.{slice_eq-Decides}
-use Rattle.mc_model.specs.Names.{Name, name_eq, is_held, place_of}
+use Rattle.mc_model.specs.Names.{Name, name_eq, is_name, is_held, place_of}
 use Rattle.mc_model.specs.Numbers.{is_member}
-use Rattle.mc_text.specs.Rules.{number_in, AreNumbers}
+use Rattle.mc_text.specs.Rules.{number_in, new_name, AreNumbers}
 use Rattle.mc_text.proofs.Numbers.{listed-number}
+use Rattle.mc_text.proofs.Naming.{distinct_front}
 
 pub name_eq-same : (a b : Name) → a ≡ b → name_eq a b ≡ true
 name_eq-same a b e = (slice_eq-Decides Decides-eqb a b (name_eq a b) refl).1 e
@@ -54,3 +56,12 @@ each_name names test at all same there back =
     (λ passed. back (λ q lt.
     let d : Name = [] in
     same q d lt ∙ AllPass-from_list_all test names passed q d lt))
+
+-- the first of names behind others is new
+pub first_new : (done : List Name) (w : Name) (ws : List Name) → is_name w ≡ true
+    → IsDistinct name_eq (done ++ w ∷ ws) → length (done ++ w ∷ ws) ≤ 256 → new_name done w ≡ None
+first_new done w ws named distinct few =
+    let free = distinct_front done w ws distinct in
+    let long = length-append done (w ∷ ws) in
+    let room : nat_le 256 (length done) ≡ false = grind (arith, nat_tests) in
+    rw (named, free, room) refl

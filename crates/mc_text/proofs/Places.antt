@@ -1,5 +1,5 @@
 -- What the words of a line add, with one more word, and behind any line.
-use Rattle.std.proofs.Common.{◌≡◌, ℕ, List, [], ◌∷◌, ◌++◌, Bool, Option, None, fold, refl, sym, ap, ap₂}
+use Rattle.std.proofs.Common.{◌≡◌, ℕ, List, [], ◌∷◌, ◌++◌, Option, None, fold, refl, sym, ap, ap₂}
 use Rattle.std.proofs.Common.{◌∙◌, append_assoc, ◌==◌, inl, inr}
 use Rattle.std.proofs.lemmas.Bool.{cases_Bool}
 use Rattle.std.proofs.lemmas.List.{append-nil}
