@@ -2,7 +2,7 @@
 use Rattle.std.proofs.Common.{◌≡◌, ℕ, zero, suc, ◌+◌, ◌<◌, ◌≤◌, Bool, true, false, ◌||◌, All, List}
 use Rattle.std.proofs.Common.{[], ◌∷◌, ◌++◌, length, map, take, drop, refl, sym, ap, ◌∙◌}
 use Rattle.std.proofs.Common.{arith, nat_eq, nat_le, Option, None}
-use Rattle.std.specs.List.{IsDistinct, AllByRecursion}
+use Rattle.std.specs.List.{IsDistinct}
 use Rattle.std.proofs.Math.Seq.{take-suc}
 use Rattle.std.proofs.lemmas.Bool.{eqb-true}
 use Rattle.std.proofs.lemmas.Option.{unwrap_or-slice_get}
@@ -25,6 +25,7 @@ use Rattle.mc_pattern_text.specs.Roles.{may_follow, follows_command, is_command,
 use Rattle.mc_pattern_text.specs.Roles.{is_output}
 use Rattle.mc_pattern_text.specs.Value.{spelled_commands}
 use Rattle.mc_pattern_text.specs.Judge.{measured_in, still_name, next_record}
+use Rattle.mc_text.proofs.FirstNames.{distinct_part}
 use Rattle.mc_text.proofs.Members.{member-listed}
 use Rattle.mc_rows.proofs.Within.{all_members}
 
@@ -45,23 +46,12 @@ pub front_more : (ns : List Name) (m : ℕ) → m < length ns
     → take (suc m) ns ≡ take m ns ++ name_at ns m ∷ []
 front_more ns m lt = take-suc ns m [] lt ∙ rw (unwrap_or-slice_get ns m []) refl
 
-front_all : (P : Name → Type 0) (xs ys : List Name) → AllByRecursion P (xs ++ ys)
-    → AllByRecursion P xs
-front_all P [] ys all = tt
-front_all P (x ∷ xs) ys all = (all.0, front_all P xs ys all.1)
-
-pub front_distinct : (xs ys : List Name) → IsDistinct name_eq (xs ++ ys) → IsDistinct name_eq xs
-unfolding IsDistinct
-front_distinct [] ys distinct = tt
-front_distinct (x ∷ xs) ys distinct =
-    (front_all (λ y. name_eq x y ≡ false) xs ys distinct.0, front_distinct xs ys distinct.1)
-
 -- a qubit's name among the names of the first qubits
 pub known_front : (ns : List Name) (m q : ℕ) → AreNames ns → m ≤ length ns → q < m
     → known_name (take m ns) (name_at ns q) ≡ None
 known_front ns m q valid within lt =
     let long = length-take-le m ns within in
-    let distinct = front_distinct (take m ns) (drop m ns)
+    let distinct = distinct_part (take m ns) (drop m ns)
     (rw (take-append-drop m ns) valid.distinct) in
     let held : is_held (take m ns) (name_at ns q) ≡ true =
     rw (← front_at ns m q lt) (held-name_at (take m ns) q distinct (omega arith)) in

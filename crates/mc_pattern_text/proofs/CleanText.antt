@@ -1,5 +1,5 @@
 -- Nothing is against a pattern's canonical text.
-use Rattle.std.proofs.Common.{◌≡◌, ℕ, zero, suc, ◌+◌, ◌<◌, ◌≤◌, Bool, true, false, not, ◌||◌, All}
+use Rattle.std.proofs.Common.{◌≡◌, ℕ, suc, ◌+◌, ◌<◌, ◌≤◌, Bool, true, false, not, ◌||◌, All}
 use Rattle.std.proofs.Common.{List, [], ◌∷◌, ◌++◌, length, map, take, drop, codes, refl, sym, ap}
 use Rattle.std.proofs.Common.{◌∙◌, append_assoc, length-append, arith, eq-eqb, nat_eq}
 use Rattle.std.proofs.Common.{Option, Some, IsTrue, cond, count_by, get_or}
@@ -30,6 +30,7 @@ use Rattle.mc_text.specs.Judged.{Words, Lines}
 use Rattle.mc_text.specs.Lists.{names_in, names_at, operand_at}
 use Rattle.mc_text.proofs.Kept.{names_at-line}
 use Rattle.mc_text.proofs.Clean.{CleanWords, Clean, last, more}
+use Rattle.mc_text.proofs.FirstNames.{all_parts, distinct_part}
 use Rattle.mc_text.proofs.Members.{first_new}
 use Rattle.mc_pattern_text.specs.Roles.{may_follow, follows_command, is_defining}
 use Rattle.mc_pattern_text.specs.Roles.{is_measuring, is_output}
@@ -38,7 +39,7 @@ use Rattle.mc_pattern_text.specs.Judge.{measured_in, is_settled, rules_with, pat
 use Rattle.mc_pattern_text.specs.Judge.{permits_constants}
 use Rattle.mc_pattern_text.specs.Canonical.{pattern_version, command_line, pattern_lines}
 use Rattle.mc_pattern_text.proofs.NamedCommands.{measured_there}
-use Rattle.mc_pattern_text.proofs.CleanCommands.{IsAfter, AreThere, front_distinct, front_more}
+use Rattle.mc_pattern_text.proofs.CleanCommands.{IsAfter, AreThere, front_more}
 use Rattle.mc_pattern_text.proofs.CleanCommands.{known_clean, measured_held, held_written}
 use Rattle.mc_pattern_text.proofs.CleanLines.{command_clean}
 use Rattle.mc_rows.proofs.Lines.{all_front, among}
@@ -263,14 +264,6 @@ outputs_clean constants ns inputs before done listed (q ∷ qs) h whole due =
     )
 
 -- the whole text
-all_named : (m : ℕ) (ns : List Name) → list_all is_name ns ≡ true
-    → list_all is_name (take m ns) ≡ true
-all_named zero ns all = refl
-all_named (suc m) [] all = refl
-all_named (suc m) (n ∷ ns) all =
-    let both = and_parts (is_name n) (list_all is_name ns) all in
-    rw (both.0, all_named m ns both.1) refl
-
 pub inputs_after : (ns : List Name) (inputs : ℕ)
     → IsAfter ns inputs ((codes "in" ∷ take inputs ns) ∷ []) []
 unfolding prepared
@@ -295,7 +288,7 @@ pattern_clean half p h permitted =
     let out = codes "out" ∷ map (name_at ns) p.outputs in
     let end = (codes "end" ∷ []) ∷ [] in
     let qubits = h.valid.qubits in
-    let distinct = front_distinct ins (drop p.inputs ns)
+    let distinct = distinct_part ins (drop p.inputs ns)
     (rw (take-append-drop p.inputs ns) valid.distinct) in
     let few = valid.few in
     let long = length-take-le p.inputs ns (omega (arith, qubits)) in
@@ -304,7 +297,7 @@ pattern_clean half p h permitted =
     more [] (codes "in" ∷ ins) (map (command_line ns) p.commands ++ out ∷ end) (
       refl,
       inputs_clean constants [] ins
-          (all_named p.inputs ns (list_all-from_AllPass is_name ns valid.valid)) distinct
+          (all_parts is_name p.inputs ns (list_all-from_AllPass is_name ns valid.valid)).0 distinct
           (omega (arith, long, few, qubits)),
     )
     refl

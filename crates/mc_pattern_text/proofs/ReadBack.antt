@@ -1,8 +1,7 @@
 -- The canonical text of a pattern is read without a fault, as that pattern.
-use Rattle.std.proofs.Common.{◌≡◌, ℕ, zero, suc, ◌+◌, ◌<◌, ◌≤◌, Bool, true, false, All, List, []}
+use Rattle.std.proofs.Common.{◌≡◌, ℕ, ◌+◌, ◌≤◌, Bool, true, false, List, []}
 use Rattle.std.proofs.Common.{◌∷◌, ◌++◌, length, map, take, codes, refl, sym, ap, ap₂, ◌∙◌}
 use Rattle.std.proofs.Common.{append_assoc, arith, Option, Some, None, IsTrue, if◌then◌else◌}
-use Rattle.std.proofs.lemmas.Bool.{and_parts}
 use Rattle.std.specs.Option.{option_map}
 use Rattle.std.specs.Fmt.{decimal}
 use Rattle.std.specs.List.{filter_map, flat_map, list_all, list_any}
@@ -33,8 +32,10 @@ use Rattle.mc_text.specs.Judged.{Words, Lines, words_of, section_lines}
 use Rattle.mc_text.specs.Lists.{names_in, names_at}
 use Rattle.mc_text.proofs.Kept.{name_no_mark}
 use Rattle.mc_text.proofs.Clean.{IsRead, written_read}
-use Rattle.mc_text.proofs.Naming.{number-name_at, numbers-name_at, is_name-name_at, name_written}
+use Rattle.mc_text.proofs.Naming.{number-name_at, numbers-name_at, is_name-name_at}
 use Rattle.mc_text.proofs.Naming.{number_written}
+use Rattle.mc_text.proofs.FirstNames.{all_parts, at_written, each_written, names_written}
+use Rattle.mc_rows.proofs.Sound.{set_written}
 use Rattle.mc_text.proofs.HeadersBack.{header_line, known_version, permitted_half}
 use Rattle.mc_text.proofs.HeadersWritten.{header_written}
 use Rattle.mc_text.proofs.Written.{is_written, is_written_line}
@@ -49,9 +50,8 @@ use Rattle.mc_pattern_text.specs.Canonical.{pattern_version, signal_words, marke
 use Rattle.mc_pattern_text.specs.Canonical.{command_line, pattern_lines, pattern_text}
 use Rattle.mc_pattern_text.specs.Canonical.{behind_header}
 use Rattle.mc_pattern_text.proofs.NamedCommands.{pattern_named}
-use Rattle.mc_pattern_text.proofs.NamedSignals.{names_written, words_back}
+use Rattle.mc_pattern_text.proofs.NamedSignals.{words_back}
 use Rattle.mc_pattern_text.proofs.CleanCommands.{IsAfter}
-use Rattle.mc_rows.specs.Written.{set_words}
 use Rattle.mc_pattern_text.proofs.CleanLines.{signal_unmarked, first_under, second_under}
 use Rattle.mc_pattern_text.proofs.CleanLines.{decimal_no_mark}
 use Rattle.mc_pattern_text.proofs.Under.{AreUnmarked, behind, behind-append, correction_behind}
@@ -59,58 +59,39 @@ use Rattle.mc_pattern_text.proofs.Under.{last_unmarked, unmarked}
 use Rattle.mc_pattern_text.proofs.CleanText.{command_after, inputs_after, pattern_clean}
 
 -- the canonical lines can be written
-front_written : (m : ℕ) (ns : List Name) → list_all is_name ns ≡ true
-    → list_all is_written (take m ns) ≡ true
-front_written zero ns all = refl
-front_written (suc m) [] all = refl
-front_written (suc m) (n ∷ ns) all =
-    let both = and_parts (is_name n) (list_all is_name ns) all in
-    rw (name_written n both.0, front_written m ns both.1) refl
-
-words_written : (ns : List Name) (qs : List ℕ) (b : Bool) → AreNames ns
-    → All (λ q. q < length ns) qs → list_all is_written (set_words ns qs b) ≡ true
-words_written ns qs true valid below =
-    let names = names_written ns qs valid below in
-    list_all-append is_written (map (name_at ns) qs) (codes "!" ∷ []) ∙ rw names refl
-words_written ns qs false valid below =
-    rw (append-nil (map (name_at ns) qs)) (names_written ns qs valid below)
-
 marked_written : (mark : List ℕ) (words : Words) → is_written mark ≡ true
     → list_all is_written words ≡ true → list_all is_written (marked mark words) ≡ true
 marked_written mark [] written all = refl
 marked_written mark (word ∷ words) written all = rw (written, all) refl
 
-name_of : (ns : List Name) (q : ℕ) → AreNames ns → q < length ns → is_written (name_at ns q) ≡ true
-name_of ns q valid lt = name_written (name_at ns q) (is_name-name_at ns q valid lt)
-
 command_written : (half : ℕ) (ns : List Name) (c : Command) → AreNames ns
     → IsTrue (is_permitted half)
     → IsNamed (length ns) c → IsTyped half c → is_written_line (command_line ns c) ≡ true
 command_written half ns (Prep q) valid permitted named typed =
-    let first = name_of ns q valid named in rw first refl
+    let first = at_written ns q valid named in rw first refl
 command_written half ns (Ent q r) valid permitted named typed =
-    let first = name_of ns q valid named.0 in
-    let second = name_of ns r valid named.1 in
+    let first = at_written ns q valid named.0 in
+    let second = at_written ns r valid named.1 in
     rw (first, second) refl
 command_written half ns (Meas q a s t) valid permitted named typed =
-    let first = name_of ns q valid named.0 in
+    let first = at_written ns q valid named.0 in
     let few : half ≤ 8 = permitted_at_most half permitted in
     let turn = typed.0 in
     let number = number_written (decimal a) (number-decimal a (omega arith)).0 in
     let firsts = marked_written (codes "s:") (signal_words ns s) refl
-    (words_written ns s.members s.constant valid named.1) in
+    (set_written ns s.members s.constant valid named.1) in
     let seconds = marked_written (codes "t:") (signal_words ns t) refl
-    (words_written ns t.members t.constant valid named.2) in
+    (set_written ns t.members t.constant valid named.2) in
     let both = list_all-append is_written (marked (codes "s:") (signal_words ns s))
     (marked (codes "t:") (signal_words ns t)) in
     rw (first, number, both, firsts, seconds) refl
 command_written half ns (FixX q s) valid permitted named typed =
-    let first = name_of ns q valid named.0 in
-    let terms = words_written ns s.members s.constant valid named.1 in
+    let first = at_written ns q valid named.0 in
+    let terms = set_written ns s.members s.constant valid named.1 in
     rw (first, terms) refl
 command_written half ns (FixZ q s) valid permitted named typed =
-    let first = name_of ns q valid named.0 in
-    let terms = words_written ns s.members s.constant valid named.1 in
+    let first = at_written ns q valid named.0 in
+    let terms = set_written ns s.members s.constant valid named.1 in
     rw (first, terms) refl
 
 commands_written : (half : ℕ) (ns : List Name) (cs : List Command) → AreNames ns
@@ -127,11 +108,11 @@ pattern_written : (half : ℕ) (p : Pattern) → IsPattern half p → IsTrue (is
     (header_words kind.Pattern (pattern_version p) half ∷ pattern_lines p) ≡ true
 pattern_written half p h permitted =
     let valid = h.valid.names in
-    let inputs = front_written p.inputs p.names
-    (list_all-from_AllPass is_name p.names valid.valid) in
+    let inputs = (all_parts is_written p.inputs p.names
+    (names_written p.names (list_all-from_AllPass is_name p.names valid.valid))).0 in
     let commands = commands_written half p.names p.commands valid permitted
     (pattern_named p h.valid) h.typed in
-    let outputs = names_written p.names p.outputs valid h.valid.outputs.below in
+    let outputs = each_written p.names p.outputs valid h.valid.outputs.below in
     let out = codes "out" ∷ map (name_at p.names) p.outputs in
     let end = (codes "end" ∷ []) ∷ [] in
     rw (

@@ -17,3 +17,4 @@ pub mod GoesOn
 pub mod NoLimits
 pub mod Places
 pub mod Members
+pub mod FirstNames
