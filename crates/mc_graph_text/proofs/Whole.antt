@@ -14,6 +14,7 @@ use Rattle.mc_text.specs.Points.{point_of, last_head}
 use Rattle.mc_text.specs.Judged.{Words, Lines}
 use Rattle.mc_text.specs.Rules.{number_in, new_name, known_name}
 use Rattle.mc_text.specs.Lists.{added}
+use Rattle.mc_text.proofs.Done.{last_head-more}
 use Rattle.mc_text.proofs.Going.{head_at}
 use Rattle.mc_text.proofs.Kept.{count_at, place-more}
 use Rattle.mc_text.proofs.Numbers.{held-place, place-held}
@@ -25,7 +26,7 @@ use Rattle.mc_graph_text.specs.Judge.{angled, first_in, is_settled, judge_by, ru
 use Rattle.mc_graph_text.specs.Kept.{graph_so_far, IsSound, IsFirst, IsUnlisted, opens, is_closed}
 use Rattle.mc_graph_text.specs.Kept.{is_keeping}
 use Rattle.mc_graph_text.proofs.Pairs.{spelled_with, spelled-word, spelled-line}
-use Rattle.mc_graph_text.proofs.Heads.{last_head-more, measuring_head}
+use Rattle.mc_graph_text.proofs.Heads.{measuring_head}
 use Rattle.mc_text.proofs.Members.{place-below}
 use Rattle.mc_graph_text.proofs.NameReads.{angled_at}
 use Rattle.mc_graph_text.proofs.Grown.{still_is, output_is, all_more, held-more}

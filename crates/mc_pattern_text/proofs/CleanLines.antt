@@ -44,7 +44,7 @@ use Rattle.mc_pattern_text.specs.Roles.{term, role_of, role_behind, is_defining,
 use Rattle.mc_pattern_text.specs.Value.{first_of, second_of, first_signal, second_signal}
 use Rattle.mc_pattern_text.specs.Judge.{measured_in, member_name, term_word, rules_with}
 use Rattle.mc_pattern_text.specs.Canonical.{signal_words, marked, command_line}
-use Rattle.mc_pattern_text.proofs.Parts.{names_stay}
+use Rattle.mc_text.proofs.NamesHere.{names_stay}
 use Rattle.mc_pattern_text.proofs.Under.{AreUnmarked, behind, behind-append, correction_behind}
 use Rattle.mc_pattern_text.proofs.Under.{correction_role, first_behind, last_unmarked, mark_at}
 use Rattle.mc_pattern_text.proofs.Under.{onto_mark, role_behind_angle, second_behind, unmarked}

@@ -43,7 +43,9 @@ use Rattle.mc_pattern_text.proofs.CleanCommands.{IsAfter, AreThere, front_more}
 use Rattle.mc_pattern_text.proofs.CleanCommands.{known_clean, measured_held, held_written}
 use Rattle.mc_pattern_text.proofs.CleanLines.{command_clean}
 use Rattle.mc_rows.proofs.Lines.{all_front, among}
-use Rattle.mc_pattern_text.proofs.Parts.{last_head-line, role_at, names_here}
+use Rattle.mc_text.proofs.Done.{last_head-more}
+use Rattle.mc_text.proofs.NamesHere.{names_here}
+use Rattle.mc_pattern_text.proofs.Under.{role_at}
 
 -- the lines of one command more
 after_by : (ns : List Name) (inputs : ℕ) (before : Lines) (done : List Command) (c : Command)
@@ -66,7 +68,7 @@ after_by ns inputs before done c here h defined operand outputs follows spelled 
         map-append (name_at ns) (measured_order done) (measured_order (c ∷ [])),
       ) refl;
   none = names_at-line is_output before here ∙ outputs ∙ h.none;
-  takes = λ head. rw (last_head-line before here) (follows head);
+  takes = λ head. rw (last_head-more before here) (follows head);
   count =
       let count = h.count in
       let lines = length-append (spelled_commands before)
@@ -311,7 +313,7 @@ pattern_clean half p h permitted =
           (rw (append-nil p.commands) h.valid.commands) is;
     } in
     let takes = after.takes (Some Out) in
-    let follows = last_head-line before' out in
+    let follows = last_head-more before' out in
     more before' out end (
       rw takes refl,
       outputs_clean constants ns p.inputs before' p.commands [] p.outputs there (sym qubits)

@@ -36,7 +36,7 @@ use Rattle.mc_pattern_text.specs.Judge.{Known, known_at, measured_in, member_nam
 use Rattle.mc_pattern_text.specs.Judge.{judge_by, rules_with}
 use Rattle.mc_pattern_text.specs.Kept.{AreMarked}
 use Rattle.mc_pattern_text.proofs.Marked.{marked-name}
-use Rattle.mc_pattern_text.proofs.Parts.{names_stay}
+use Rattle.mc_text.proofs.NamesHere.{names_stay}
 use Rattle.mc_pattern_text.proofs.Sets.{signal_stays}
 
 abbrev pub is_good : Bool → List (List ℕ) → List (List ℕ) → List ℕ → Bool

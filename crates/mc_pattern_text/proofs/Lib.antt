@@ -1,4 +1,3 @@
-pub mod Parts
 pub mod NamedCommands
 pub mod Printing
 pub mod NamedSignals

@@ -54,7 +54,9 @@ use Rattle.mc_pattern_text.proofs.KeepingLine.{replaced_or}
 use Rattle.mc_pattern_text.proofs.LineOrder.{is_closed, open_before, end_follows, known_head}
 use Rattle.mc_pattern_text.proofs.LineOrder.{first_line}
 use Rattle.mc_pattern_text.proofs.Marked.{marked-name}
-use Rattle.mc_pattern_text.proofs.Parts.{last_head-line, role_at, names_here, names_stay}
+use Rattle.mc_text.proofs.Done.{last_head-more}
+use Rattle.mc_text.proofs.NamesHere.{names_here, names_stay}
+use Rattle.mc_pattern_text.proofs.Under.{role_at}
 
 -- no name of a list is measured
 abbrev pub is_still : List Name → Name → Bool
@@ -178,7 +180,7 @@ module _ (half : ℕ) (constants : Bool) (before : Lines) (h : List ℕ)
       names_at-line is_output before here
       ∙ names_stay is_output before h words (rw g no_output)
       ∙ sound.unlisted (open_before (last_head before) hd order other) in
-      let last : last_head (before ++ here ∷ []) ≡ hd = last_head-line before here ∙ g in
+      let last : last_head (before ++ here ∷ []) ≡ hd = last_head-more before here ∙ g in
       record {
         made = rw (defined, names_at-line is_input before here, b, c, d) made;
         outputs = rw none
@@ -218,7 +220,7 @@ module _ (half : ℕ) (constants : Bool) (before : Lines) (h : List ℕ)
       ∙ rw no_command (append-nil (spelled_commands before)) in
       let listed' : names_at is_output (before ++ here ∷ []) [] ≡ listed =
       names_at-line is_output before here ∙ outs in
-      let last : last_head (before ++ here ∷ []) ≡ hd = last_head-line before here ∙ g in
+      let last : last_head (before ++ here ∷ []) ≡ hd = last_head-more before here ∙ g in
       record {
         made = rw (defined, inputs, measured, spelled) sound.made;
         outputs = rw (defined, measured, listed') are;

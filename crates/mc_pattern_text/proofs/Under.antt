@@ -13,10 +13,22 @@ use Rattle.mc_text.specs.Heads.{head_of}
 use Rattle.mc_text.specs.Points.{first_point, mark_of, next_point, point_of, last_head}
 use Rattle.mc_text.specs.Judged.{Words, Lines}
 use Rattle.mc_text.specs.Places.{words_by}
-use Rattle.mc_text.proofs.Going.{not_first}
+use Rattle.mc_text.proofs.Going.{head_at, not_first}
+use Rattle.mc_text.proofs.Kept.{count_some}
 use Rattle.mc_text.proofs.Places.{words_by-word}
-use Rattle.mc_pattern_text.specs.Roles.{Role, term, role_of, role_behind, is_measuring, is_correcting}
+use Rattle.mc_pattern_text.specs.Roles.{Role, term, role_in, role_of, role_behind, is_measuring, is_correcting}
 use Rattle.mc_pattern_text.specs.Value.{first_of, second_of, added_by, first_signal, second_signal}
+
+-- the role of a word behind a record word
+pub role_at : (before : Lines) (h : List ℕ) (list : Words)
+    → role_of (point_of before (h ∷ list))
+    ≡ role_in (head_of h) (point_of before (h ∷ list)).count (point_of before (h ∷ list)).mark
+role_at before h list =
+    rw (
+      ne_eqb (point_of before (h ∷ list)).count 0 (count_some before h list),
+      head_at before
+          (h ∷ list),
+    ) refl
 
 pub added-word : (adds : Role → List ℕ → Words) (before : Lines) (here : Words) (p : Point)
     (word : List ℕ) → p ≡ point_of before here

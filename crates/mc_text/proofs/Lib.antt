@@ -18,3 +18,4 @@ pub mod NoLimits
 pub mod Places
 pub mod Members
 pub mod FirstNames
+pub mod NamesHere
