@@ -1,5 +1,5 @@
 -- Sections of certificates pass no limit.
-use Rattle.std.proofs.Common.{ℕ, List, [], ◌∷◌, Bool}
+use Rattle.std.proofs.Common.{ℕ, List, [], ◌∷◌, Bool, false}
 use Rattle.mc_lex.specs.declared.end.TextEnd.TheVariants as end
 use Rattle.mc_lex.specs.declared.kind.Kind.{Kind}
 use Rattle.mc_lex.specs.declared.kind.Kind.TheVariants.{Flow, NoFlow, NoCausal, Least}

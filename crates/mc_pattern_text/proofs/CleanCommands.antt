@@ -10,7 +10,7 @@ use Rattle.std.proofs.lemmas.Bool.Decides.{nat_tests}
 use Rattle.std.proofs.lemmas.List.{take-append-drop, length-take-le}
 use Rattle.mc_model.specs.Names.{Name, AreNames, name_eq, is_held}
 use Rattle.mc_model.specs.Numbers.{is_member}
-use Rattle.mc_model.specs.Pattern.{Command, Prep, Ent, Meas, FixX, FixZ, measured_order}
+use Rattle.mc_model.specs.Pattern.{Command, Meas, measured_order}
 use Rattle.mc_model.specs.Signals.{Signal, IsRising}
 use Rattle.mc_model.specs.Valid.{IsLive, SignalFits, AllDone, measured, prepared}
 use Rattle.mc_write.specs.Named.{name_at}
@@ -62,11 +62,8 @@ known_front ns m q valid within lt =
 pub measured_listed : (cs : List Command) (k : ℕ) → measured cs k ≡ is_member (measured_order cs) k
 unfolding measured
 measured_listed [] k = refl
-measured_listed (Prep q ∷ cs) k = measured_listed cs k
-measured_listed (Ent q r ∷ cs) k = measured_listed cs k
 measured_listed (Meas q a s t ∷ cs) k = ap (λ (b : Bool). nat_eq k q || b) (measured_listed cs k)
-measured_listed (FixX q s ∷ cs) k = measured_listed cs k
-measured_listed (FixZ q s ∷ cs) k = measured_listed cs k
+measured_listed (_ ∷ cs) k = measured_listed cs k
 
 pub held_written : (ns : List Name) (qs : List ℕ) (q : ℕ) → IsDistinct name_eq ns
     → All (λ r. r < length ns) qs → q < length ns

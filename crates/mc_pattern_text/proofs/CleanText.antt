@@ -14,7 +14,7 @@ use Rattle.std.proofs.lemmas.List.Sums.{sum_by-append, sum_by-cons, list_all-fro
 use mathlib.Core.Logic.{inl, inr}
 use Rattle.mc_model.specs.Names.{Name, AreNames, name_eq, is_name}
 use Rattle.mc_model.specs.Numbers.{is_member}
-use Rattle.mc_model.specs.Pattern.{Command, Prep, Ent, Meas, FixX, FixZ, Pattern, measured_by}
+use Rattle.mc_model.specs.Pattern.{Command, Prep, Pattern, measured_by}
 use Rattle.mc_model.specs.Pattern.{measured_order, has_constant}
 use Rattle.mc_model.specs.Steps.{is_permitted}
 use Rattle.mc_model.specs.Valid.{FitsBehind, IsValid, measured, prepared}
@@ -103,25 +103,13 @@ command_after ns inputs before done (Prep q) h fits within =
     ∙ rw (front_more ns m lt, fits) refl in
     after_by ns inputs before done (Prep q) (command_line ns (Prep q)) h (rw next defined) refl refl
     (λ head. refl) refl
-command_after ns inputs before done (Ent q r) h fits within =
-    after_by ns inputs before done (Ent q r) (command_line ns (Ent q r)) h
-    (h.defined ∙ same_count ns inputs done (Ent q r) refl) refl refl (λ head. refl) refl
-command_after ns inputs before done (Meas q a s t) h fits within =
-    after_by ns inputs before done (Meas q a s t) (command_line ns (Meas q a s t)) h
-    (h.defined ∙ same_count ns inputs done (Meas q a s t) refl) refl refl (λ head. refl) refl
-command_after ns inputs before done (FixX q s) h fits within =
-    after_by ns inputs before done (FixX q s) (command_line ns (FixX q s)) h
-    (h.defined ∙ same_count ns inputs done (FixX q s) refl) refl refl (λ head. refl) refl
-command_after ns inputs before done (FixZ q s) h fits within =
-    after_by ns inputs before done (FixZ q s) (command_line ns (FixZ q s)) h
-    (h.defined ∙ same_count ns inputs done (FixZ q s) refl) refl refl (λ head. refl) refl
+command_after ns inputs before done _ h fits within =
+    after_by ns inputs before done _ _ h (h.defined ∙ same_count ns inputs done _ refl) refl refl
+    (λ head. refl) refl
 
 no_end : (ns : List Name) (c : Command) → is_end (head_in (command_line ns c)) ≡ false
 no_end ns (Prep q) = refl
-no_end ns (Ent q r) = refl
-no_end ns (Meas q a s t) = refl
-no_end ns (FixX q s) = refl
-no_end ns (FixZ q s) = refl
+no_end ns _ = refl
 
 commands_clean : (constants : Bool) (half : ℕ) (ns : List Name) (inputs : ℕ) (before : Lines)
     (done cs : List Command) (tail : Lines) → IsAfter ns inputs before done → AreNames ns

@@ -21,12 +21,6 @@ open_before (Some _) h order other = refl
 
 pub end_follows : (last : Option Head) → may_follow last (Some End) ≡ true → is_closed last ≡ true
 end_follows None e = absurd (cc e)
-end_follows (Some In) e = absurd (cc e)
-end_follows (Some N) e = absurd (cc e)
-end_follows (Some E) e = absurd (cc e)
-end_follows (Some M) e = absurd (cc e)
-end_follows (Some X) e = absurd (cc e)
-end_follows (Some Z) e = absurd (cc e)
 end_follows (Some Out) e = refl
 end_follows (Some _) e = absurd (cc e)
 
@@ -47,9 +41,4 @@ known_head (Some _) hd e = absurd (cc e)
 pub first_line : (last : Option Head) → may_follow last (Some In) ≡ true → last ≡ None
 first_line None e = refl
 first_line (Some In) e = absurd (cc e)
-first_line (Some N) e = absurd (cc e)
-first_line (Some E) e = absurd (cc e)
-first_line (Some M) e = absurd (cc e)
-first_line (Some X) e = absurd (cc e)
-first_line (Some Z) e = absurd (cc e)
 first_line (Some _) e = absurd (cc e)

@@ -241,10 +241,7 @@ no_inputs : (ns : List Name) (cs : List Command)
     → flat_map (names_in is_input) (map (command_line ns) cs) ≡ []
 no_inputs ns [] = refl
 no_inputs ns (Prep q ∷ cs) = no_inputs ns cs
-no_inputs ns (Ent q r ∷ cs) = no_inputs ns cs
-no_inputs ns (Meas q a s t ∷ cs) = no_inputs ns cs
-no_inputs ns (FixX q s ∷ cs) = no_inputs ns cs
-no_inputs ns (FixZ q s ∷ cs) = no_inputs ns cs
+no_inputs ns (_ ∷ cs) = no_inputs ns cs
 
 names_of : (test : Option Head → Bool) (p : Pattern)
     → names_at test (pattern_lines p) []
