@@ -1,10 +1,11 @@
 -- Terms with nothing against them: measured qubits, and constants where those may stand.
 use Rattle.std.proofs.Common.{◌≡◌, ℕ, Bool, true, false, not, ◌&&◌, List, [], ◌∷◌, ◌++◌}
 use Rattle.std.proofs.Common.{Option, None, length, map, refl, sym, ap, ◌∙◌, nat_eq, nat_lt}
-use Rattle.std.proofs.Common.{if◌then◌else◌, inl, inr, ap₂, subst}
+use Rattle.std.proofs.Common.{inl, inr, subst}
 use Rattle.std.specs.List.{list_all, list_any}
 use Rattle.std.proofs.lemmas.Bool.{and_parts, eqb-true, or_cases}
-use Rattle.std.proofs.lemmas.List.Folds.{list_all-append}
+use Rattle.std.proofs.lemmas.List.Elements.{filter-append}
+use Rattle.std.proofs.lemmas.List.Folds.{list_all-append, list_any-append}
 use Rattle.mc_model.specs.Bits.{Bits}
 use Rattle.mc_model.specs.Signals.{IsRising}
 use Rattle.mc_pattern.specs.Rules.{is_undone}
@@ -24,7 +25,7 @@ use Rattle.mc_text.proofs.Places.{words_by-last}
 use Rattle.mc_text.specs.declared.fault.Fault.TheVariants.{NotMeasured}
 use Rattle.mc_text.specs.Rules.{number_in, broken, listed_name}
 use Rattle.mc_text.specs.Rules.{known_name}
-use Rattle.mc_text.proofs.Unbroken.{known_is, listed_is, next_none, not_false, unbroken}
+use Rattle.mc_text.proofs.Unbroken.{known_is, next_none, not_false, unbroken}
 use Rattle.mc_text.proofs.Numbers.{place-held}
 use Rattle.mc_rows.specs.Rows.{is_one, has_one, named}
 use Rattle.mc_rows.proofs.RisingSets.{member_where, rising_where}
@@ -39,38 +40,61 @@ use Rattle.mc_pattern_text.proofs.Marked.{marked-name}
 use Rattle.mc_text.proofs.NamesHere.{names_stay}
 use Rattle.mc_pattern_text.proofs.Sets.{signal_stays}
 
-abbrev pub is_good : Bool → List (List ℕ) → List (List ℕ) → List ℕ → Bool
-is_good constants names measured word =
-    if is_one word then constants else (is_held names word && is_held measured word)
+-- names that are known and measured, and the constant where it may stand
+record AreGood (constants : Bool) (names measured : List (List ℕ)) (words : Words) : Type 0 where
+  known : list_all (is_held names) (named words) ≡ true
+  early : list_all (is_held measured) (named words) ≡ true
+  plain : constants ≡ false → has_one words ≡ false
 
-abbrev pub AreGood : Bool → List (List ℕ) → List (List ℕ) → Words → Type 0
-AreGood constants names measured words = list_all (is_good constants names measured) words ≡ true
+no_terms : (constants : Bool) (names measured : List (List ℕ)) → AreGood constants names measured []
+no_terms constants names measured = record { known = refl; early = refl; plain = λ none. refl }
+
+both_good : (constants : Bool) (names measured : List (List ℕ)) (xs ys : Words)
+    → AreGood constants names measured xs → AreGood constants names measured ys
+    → AreGood constants names measured (xs ++ ys)
+both_good constants names measured xs ys one more =
+    let all = filter-append (λ word. not (is_one word)) xs ys in
+    record {
+      known = rw all
+          (list_all-append (is_held names) (named xs) (named ys) ∙ rw (one.known, more.known) refl);
+      early = rw all
+          (list_all-append (is_held measured) (named xs) (named ys) ∙ rw (one.early, more.early) refl);
+      plain = λ none. list_any-append is_one xs ys ∙ rw (one.plain none, more.plain none) refl;
+    }
 
 member_good : (constants : Bool) (names measured : List (List ℕ)) (signal : Words) (word : List ℕ)
     → member_name names measured signal word ≡ None
-    → is_good constants names measured word ≡ true
+    → AreGood constants names measured (word ∷ [])
 member_good constants names measured signal word clean =
     let late = (not (is_held measured word), NotMeasured) ∷ [] in
     let both = next_none (listed_name names (named signal) word) (broken late) clean in
-    let listed = listed_is names (named signal) word both.0 in
     let known = known_is names word (next_none (known_name names word) _ both.0).0 in
     let early = not_false (is_held measured word)
     (unbroken (not (is_held measured word)) NotMeasured [] both.1).0 in
-    rw (name_no_one word known.0, listed.0, early) refl
+    let no_one = name_no_one word known.0 in
+    record {
+      known = rw (no_one, known.1) refl;
+      early = rw (no_one, early) refl;
+      plain = λ none. rw no_one refl;
+    }
 
 term_good : (constants : Bool) (names measured : List (List ℕ)) (signal : Words)
     (word : List ℕ) → term_word constants names measured signal word ≡ None
-    → is_good constants names measured word ≡ true
+    → AreGood constants names measured (word ∷ [])
 term_good constants names measured signal word clean =
     by_tests constants (is_one word) refl refl
   where
     by_member : (constants && is_one word) ≡ false
-        → is_good constants names measured word ≡ true
+        → AreGood constants names measured (word ∷ [])
     by_member e = member_good constants names measured signal word (rw e at clean)
 
     by_tests : (c t : Bool) → constants ≡ c → is_one word ≡ t
-        → is_good constants names measured word ≡ true
-    by_tests true true e f = rw (f, e) refl
+        → AreGood constants names measured (word ∷ [])
+    by_tests true true e f = record {
+      known = rw f refl;
+      early = rw f refl;
+      plain = λ none. absurd (cc (e, none));
+    }
     by_tests true false e f = by_member (rw (e, f) refl)
     by_tests false t e f = by_member (rw e refl)
 
@@ -82,20 +106,18 @@ first_good constants k last first_term w clean = by_test (is_second (mark_of w))
   where
     by_test : (t : Bool) → is_second (mark_of w) ≡ t
         → AreGood constants k.names k.measured (first_of first_term w)
-    by_test true e = rw e refl
+    by_test true e = rw e (no_terms constants k.names k.measured)
     by_test false e =
         let clean' : term_word constants k.names k.measured k.s w ≡ None = rw e at clean in
-        rw e (ap (λ (b : Bool). b && true) (term_good constants k.names k.measured k.s w clean'))
-first_good constants k last term w clean =
-    ap (λ (b : Bool). b && true) (term_good constants k.names k.measured k.s w clean)
-first_good constants k last _ w clean = refl
+        rw e (term_good constants k.names k.measured k.s w clean')
+first_good constants k last term w clean = term_good constants k.names k.measured k.s w clean
+first_good constants k last _ w clean = no_terms constants k.names k.measured
 
 second_good : (constants : Bool) (k : Known) (last : Option Head) (r : Role) (w : List ℕ)
     → judge_by constants k last r w ≡ None
     → AreGood constants k.names k.measured (second_of r w)
-second_good constants k last second_term w clean =
-    ap (λ (b : Bool). b && true) (term_good constants k.names k.measured k.t w clean)
-second_good constants k last _ w clean = refl
+second_good constants k last second_term w clean = term_good constants k.names k.measured k.t w clean
+second_good constants k last _ w clean = no_terms constants k.names k.measured
 
 -- and those of a line
 module _ (constants : Bool) (adds : Role → List ℕ → Words)
@@ -106,7 +128,8 @@ module _ (constants : Bool) (adds : Role → List ℕ → Words)
       → CleanWords (rules_with constants) before (h ∷ xs) ws
       → AreGood constants (names_at is_defining before []) (measured_in before)
       (words_by (added_by adds) (point_of before (h ∷ xs)) ws)
-  words_good before h xs [] gate clean = refl
+  words_good before h xs [] gate clean =
+      no_terms constants (names_at is_defining before []) (measured_in before)
   words_good before h xs (w ∷ ws) gate clean =
       let names = names_at is_defining before [] in
       let measured = measured_in before in
@@ -118,73 +141,27 @@ module _ (constants : Bool) (adds : Role → List ℕ → Words)
       (λ (q : Point). AreGood constants names measured (words_by (added_by adds) q ws))
       (point_of-more before (h ∷ xs) w)
       (words_good before h (xs ++ w ∷ []) ws gate clean.1) in
-      list_all-append (is_good constants names measured) (adds (role_of p) w)
-      (words_by (added_by adds) (next_point p w) ws)
-      ∙ ap₂ (λ (a b : Bool). a && b) one' rest
+      both_good constants names measured (adds (role_of p) w)
+      (words_by (added_by adds) (next_point p w) ws) one' rest
 
--- a signal of such terms
-good_held : (constants : Bool) (names measured : List (List ℕ)) (words : Words)
-    → AreGood constants names measured words → list_all (is_held names) (named words) ≡ true
-good_held constants names measured [] good = refl
-good_held constants names measured (w ∷ words) good =
-    let both = and_parts (is_good constants names measured w)
-    (list_all (is_good constants names measured) words) good in
-    by_test (is_one w) refl both.0 (good_held constants names measured words both.1)
-  where
-    by_test : (t : Bool) → is_one w ≡ t → is_good constants names measured w ≡ true
-        → list_all (is_held names) (named words) ≡ true
-        → list_all (is_held names) (named (w ∷ words)) ≡ true
-    by_test true e one rest = rw e rest
-    by_test false e one rest =
-        let one' = rw e at one in
-        let held = (and_parts (is_held names w) (is_held measured w) one').0 in
-        rw (e, held, rest) refl
-
-members_done : (constants : Bool) (names measured : List (List ℕ)) (marks : Bits) (words : Words)
-    (q : ℕ) → AreMarked names measured marks → AreGood constants names measured words
-    → is_member (map (number_in names) (named words)) q ≡ true → marks q ≡ true
-members_done constants names measured marks [] q are good member = absurd (cc member)
-members_done constants names measured marks (w ∷ words) q are good member =
-    let both = and_parts (is_good constants names measured w)
-    (list_all (is_good constants names measured) words) good in
-    by_test (is_one w) refl both.0
-    (members_done constants names measured marks words q are both.1)
-  where
-    by_test : (t : Bool) → is_one w ≡ t → is_good constants names measured w ≡ true
-        → (is_member (map (number_in names) (named words)) q ≡ true → marks q ≡ true)
-        → marks q ≡ true
-    by_test true e one rest = rest (rw e at member)
-    by_test false e one rest =
-        let one' = rw e at one in
-        let held = and_parts (is_held names w) (is_held measured w) one' in
-        let place = place-held names w held.0 in
-        let number : number_in names w ≡ place.0 = rw place.1 refl in
-        let member' = rw (e, number) at member in
-        elim (or_cases (nat_eq q place.0)
-        (is_member (map (number_in names) (named words)) q) member') [
-          | inl same ↦
-              ap marks (eqb-true q place.0 same)
-              ∙ marked-name names measured marks w place.0 are place.1 ∙ held.1
-          | inr later ↦ rest later
-        ]
-
-and_true_left : (a b : Bool) → (a && b) ≡ true → a ≡ true
-and_true_left true b e = refl
-and_true_left false b e = absurd (cc e)
-
-good_plain : (constants : Bool) (names measured : List (List ℕ)) (words : Words)
-    → constants ≡ false → AreGood constants names measured words
-    → has_one words ≡ false
-good_plain constants names measured [] none good = refl
-good_plain constants names measured (w ∷ words) none good =
-    let both = and_parts (is_good constants names measured w)
-    (list_all (is_good constants names measured) words) good in
-    by_test (is_one w) refl both.0 (good_plain constants names measured words none both.1)
-  where
-    by_test : (t : Bool) → is_one w ≡ t → is_good constants names measured w ≡ true
-        → has_one words ≡ false → has_one (w ∷ words) ≡ false
-    by_test true e one rest = let one' = rw (e, none) at one in absurd (cc one')
-    by_test false e one rest = rw (e, rest) refl
+-- the members of a signal of such terms are measured
+members_done : (names measured : List (List ℕ)) (marks : Bits) (list : List (List ℕ)) (q : ℕ)
+    → AreMarked names measured marks → list_all (is_held names) list ≡ true
+    → list_all (is_held measured) list ≡ true → is_member (map (number_in names) list) q ≡ true
+    → marks q ≡ true
+members_done names measured marks [] q are known early member = absurd (cc member)
+members_done names measured marks (w ∷ list) q are known early member =
+    let held = and_parts (is_held names w) (list_all (is_held names) list) known in
+    let late = and_parts (is_held measured w) (list_all (is_held measured) list) early in
+    let place = place-held names w held.0 in
+    let number : number_in names w ≡ place.0 = rw place.1 refl in
+    let member' = rw number at member in
+    elim (or_cases (nat_eq q place.0) (is_member (map (number_in names) list) q) member') [
+      | inl same ↦
+          ap marks (eqb-true q place.0 same)
+          ∙ marked-name names measured marks w place.0 are place.1 ∙ late.0
+      | inr later ↦ members_done names measured marks list q are held.1 late.1 later
+    ]
 
 -- what holds of a signal of such terms
 pub record AreTerms (constants : Bool) (names : List (List ℕ)) (marks : Bits) (words : Words)
@@ -200,12 +177,12 @@ terms_are : (constants : Bool) (names measured : List (List ℕ)) (marks : Bits)
 terms_are constants names measured marks words are good =
     let p = is_member (map (number_in names) (named words)) in
     record {
-      stays = λ more. signal_stays names more words (good_held constants names measured words good);
+      stays = λ more. signal_stays names more words good.known;
       done = none_by (is_undone marks) (signal_in names words).members (λ q member.
           let is = and_parts (p q) (nat_lt q (length names))
           (sym (member_where p (length names) q) ∙ member) in
-          rw (members_done constants names measured marks words q are good is.0) refl);
-      plain = λ none. good_plain constants names measured words none good;
+          rw (members_done names measured marks (named words) q are good.known good.early is.0) refl);
+      plain = good.plain;
       rising = rising_where p (length names);
     }
 

@@ -1,5 +1,5 @@
 -- Names and the marks at their numbers.
-use Rattle.std.proofs.Common.{◌≡◌, ℕ, ◌<◌, List, [], ◌∷◌, ◌++◌, true, false, ◌||◌, Option}
+use Rattle.std.proofs.Common.{Bool, ◌≡◌, ℕ, ◌<◌, List, [], ◌∷◌, ◌++◌, ◌||◌, Option}
 use Rattle.std.proofs.Common.{Some, None, length, refl, sym, ◌∙◌, arith}
 use Rattle.std.proofs.Common.{length-append, get_or}
 use Rattle.std.specs.List.{IsDistinct}
@@ -9,7 +9,7 @@ use Rattle.mc_model.specs.Numbers.{is_member}
 use Rattle.mc_model.specs.Names.{name_eq, is_held, place_of}
 use Rattle.mc_text.specs.declared.fault.Fault.TheVariants.{Measured, SameOperand, ListedTwice}
 use Rattle.mc_text.specs.Judged.{fault}
-use Rattle.mc_text.specs.Rules.{known_name, AreNumbers}
+use Rattle.mc_text.specs.Rules.{broken, known_name, AreNumbers}
 use Rattle.mc_text.proofs.Numbers.{place-same}
 use Rattle.mc_text.proofs.Listed.{place_at}
 use Rattle.mc_text.proofs.Members.{name_eq-same, member-listed, numbered-name}
@@ -22,20 +22,11 @@ pub marked-name : (names list : List (List ℕ)) (marks : Bits) (word : List ℕ
 marked-name names list marks word q are e =
     are.marked q ∙ member-listed names list word q e are.held
 
-pub still_name_clean : (names measured : List (List ℕ)) (marks : Bits) (word : List ℕ) (q : ℕ)
+pub still_name_by : (names measured : List (List ℕ)) (marks : Bits) (word : List ℕ) (q : ℕ) {t : Bool}
     → AreMarked names measured marks → known_name names word ≡ None → place_of names word ≡ Some q
-    → marks q ≡ false → still_name names measured word ≡ None
-still_name_clean names measured marks word q are known e free =
-    let same : is_held measured word ≡ false =
-    sym (marked-name names measured marks word q are e) ∙ free in
-    rw (known, same) refl
-
-pub still_name_measured : (names measured : List (List ℕ)) (marks : Bits) (word : List ℕ) (q : ℕ)
-    → AreMarked names measured marks → known_name names word ≡ None → place_of names word ≡ Some q
-    → marks q ≡ true → still_name names measured word ≡ Some (fault Measured)
-still_name_measured names measured marks word q are known e marked =
-    let same : is_held measured word ≡ true =
-    sym (marked-name names measured marks word q are e) ∙ marked in
+    → marks q ≡ t → still_name names measured word ≡ broken ((t, Measured) ∷ [])
+still_name_by names measured marks word q {t} are known e is =
+    let same : is_held measured word ≡ t = sym (marked-name names measured marks word q are e) ∙ is in
     rw (known, same) refl
 
 -- a second operand
@@ -49,22 +40,12 @@ second_name_same names measured first word q is still place =
     rw (is.is, still, same) refl
 
 -- an output
-pub output_name_twice : (names measured listed : List (List ℕ)) (outputs : List ℕ) (word : List ℕ)
-    (q : ℕ) → AreNumbers names listed outputs → still_name names measured word ≡ None
-    → place_of names word ≡ Some q → is_member outputs q ≡ true
-    → output_name names measured listed word ≡ Some (fault ListedTwice)
-output_name_twice names measured listed outputs word q are still e member =
-    let held : is_held listed word ≡ true =
-    sym (numbered-name names listed outputs word q are e) ∙ member in
-    rw (still, held) refl
-
-pub output_name_clean : (names measured listed : List (List ℕ)) (outputs : List ℕ) (word : List ℕ)
-    (q : ℕ) → AreNumbers names listed outputs → still_name names measured word ≡ None
-    → place_of names word ≡ Some q → is_member outputs q ≡ false
-    → output_name names measured listed word ≡ None
-output_name_clean names measured listed outputs word q are still e free =
-    let held : is_held listed word ≡ false =
-    sym (numbered-name names listed outputs word q are e) ∙ free in
+pub output_name_by : (names measured listed : List (List ℕ)) (outputs : List ℕ) (word : List ℕ)
+    (q : ℕ) {t : Bool} → AreNumbers names listed outputs → still_name names measured word ≡ None
+    → place_of names word ≡ Some q → is_member outputs q ≡ t
+    → output_name names measured listed word ≡ broken ((t, ListedTwice) ∷ [])
+output_name_by names measured listed outputs word q {t} are still e is =
+    let held : is_held listed word ≡ t = sym (numbered-name names listed outputs word q are e) ∙ is in
     rw (still, held) refl
 
 -- a name that goes behind distinct ones has the next number

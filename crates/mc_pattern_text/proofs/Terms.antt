@@ -1,6 +1,6 @@
 -- The terms of a signal: its members and its constant, and the words that spell them.
 use Rattle.std.proofs.Common.{◌≡◌, ℕ, suc, ◌<◌, true, false, List, [], ◌∷◌, Some, None, length}
-use Rattle.std.proofs.Common.{refl, sym, ap, ◌∙◌, arith, slice_get, ne_eqb}
+use Rattle.std.proofs.Common.{not, Bool, refl, sym, ap, ◌∙◌, arith, slice_get, ne_eqb}
 use Rattle.std.proofs.lemmas.Option.{slice_get_within, get_or_from_slice_get}
 use Rattle.mc_model.specs.Bits.{Bits}
 use Rattle.mc_model.specs.Numbers.{is_member}
@@ -11,43 +11,26 @@ use Rattle.mc_signal.proofs.Members.{toggled_all-single}
 use Rattle.mc_signal.proofs.Rising.{rising_at}
 use Rattle.mc_text.specs.declared.fault.Fault.TheVariants.{ListedTwice, NotMeasured}
 use Rattle.mc_text.specs.Judged.{fault, Words}
-use Rattle.mc_text.specs.Rules.{known_name}
+use Rattle.mc_text.specs.Rules.{broken, known_name, or_next}
 use Rattle.mc_rows.specs.Rows.{is_one, named}
 use Rattle.mc_rows.proofs.Sets.{has-listed, joins_one, joins_name}
 use Rattle.mc_pattern_text.specs.Judge.{member_name, term_word}
 use Rattle.mc_pattern_text.specs.Kept.{AreMarked, IsSpelled, Joins}
 use Rattle.mc_pattern_text.proofs.Marked.{marked-name}
 
-module _ (names measured : List (List ℕ)) (words : Words) (signal : Signal) (word : List ℕ) (q : ℕ)
-    (spelled : IsSpelled names words signal) (known : known_name names word ≡ None)
-    (place : place_of names word ≡ Some q) where
-  -- a name stands among the words exactly where the signal has it as a member
-  term-held : is_member signal.members q ≡ is_held (named words) word
-  term-held = has-listed names words signal.members signal.constant word q place spelled
-
-  pub member_name_twice : is_member signal.members q ≡ true
-      → member_name names measured words word ≡ Some (fault ListedTwice)
-  member_name_twice member =
-      let held : is_held (named words) word ≡ true = sym term-held ∙ member in
-      rw (known, held) refl
-
-  pub member_name_early : (marks : Bits) → AreMarked names measured marks
-      → is_member signal.members q ≡ false → marks q ≡ false
-      → member_name names measured words word ≡ Some (fault NotMeasured)
-  member_name_early marks done free unmarked =
-      let new : is_held (named words) word ≡ false = sym term-held ∙ free in
-      let not_yet : is_held measured word ≡ false =
-      sym (marked-name names measured marks word q done place) ∙ unmarked in
-      rw (known, new, not_yet) refl
-
-  pub member_name_clean : (marks : Bits) → AreMarked names measured marks
-      → is_member signal.members q ≡ false → marks q ≡ true
-      → member_name names measured words word ≡ None
-  member_name_clean marks done free marked =
-      let new : is_held (named words) word ≡ false = sym term-held ∙ free in
-      let there : is_held measured word ≡ true =
-      sym (marked-name names measured marks word q done place) ∙ marked in
-      rw (known, new, there) refl
+-- a name stands among the words exactly where the signal has it as a member
+pub member_name_by : (names measured : List (List ℕ)) (words : Words) (signal : Signal)
+    (word : List ℕ) (q : ℕ) {s t : Bool} → IsSpelled names words signal
+    → known_name names word ≡ None → place_of names word ≡ Some q → (marks : Bits)
+    → AreMarked names measured marks → is_member signal.members q ≡ s → marks q ≡ t
+    → member_name names measured words word
+    ≡ or_next (broken ((s, ListedTwice) ∷ [])) (broken ((not t, NotMeasured) ∷ []))
+member_name_by names measured words signal word q {s} {t} spelled known place marks done is early =
+    let held : is_held (named words) word ≡ s =
+    sym (has-listed names words signal.members signal.constant word q place spelled) ∙ is in
+    let there : is_held measured word ≡ t =
+    sym (marked-name names measured marks word q done place) ∙ early in
+    rw (known, held, there) refl
 
 -- the constant
 pub constant_twice : (names measured : List (List ℕ)) (words : Words) (signal : Signal)
