@@ -33,8 +33,8 @@ has_name Set = false
 has_name NamedSet = true
 has_name RankedSet = true
 
--- the record word of a row may stand where it stands, and the rules of the kind's own are kept by it
--- behind these rows, by its name and by the members of its set
+-- the record word of a row may stand where it stands, and the rules of the kind's own are kept
+-- behind these rows, by the name of the row and by the members of its set
 pub record Passes (kind : Kind) (rows : List Row) (row : Row) : Type 0 where
   pub follows : (last : Option Head) × (kind.follows last row.head ≡ true)
   pub goes : is_end row.head ≡ false
