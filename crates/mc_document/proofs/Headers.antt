@@ -2,16 +2,11 @@
 -- its kind may, and where its form permits what it says.
 use Rattle.std.proofs.Common.{◌≡◌, ℕ, ◌+◌, true, false, List, [], ◌∷◌, ◌++◌, drop, Some}
 use Rattle.std.proofs.Common.{None, Option, length, refl, sym, ap, ◌∙◌, inl, inr}
-use Rattle.std.proofs.Common.{Bool, IsTrue, if◌then◌else◌}
 use Rattle.std.specs.List.{list_all}
-use Rattle.std.proofs.lemmas.Bool.{eqb-true}
-use Rattle.std.proofs.lemmas.Bool.Decides.{eqb_tells}
 use Rattle.std.proofs.lemmas.List.{append-nil}
 use Rattle.mc_lex.specs.declared.kind.Kind.{Kind}
-use Rattle.mc_lex.specs.declared.kind.Kind.TheVariants.{Circuit}
 use Rattle.mc_lex.specs.Kinds.{kind_of, spelling}
 use Rattle.mc_lex.specs.Lines.{word, Line, line_of, lines_from, lines_of}
-use Rattle.mc_model.specs.Steps.{is_permitted}
 use Rattle.mc_write.specs.Text.{line_text, text_of}
 use Rattle.mc_text.specs.declared.fault.Fault.{Fault}
 use Rattle.mc_text.specs.declared.form.Form.{Form}
@@ -22,7 +17,7 @@ use Rattle.mc_text.specs.Headers.{half_in}
 use Rattle.mc_text.proofs.Clean.{CleanWords}
 use Rattle.mc_text.proofs.HeadersWritten.{header_written}
 use Rattle.mc_text.proofs.HeadersBack.{half_back, kind_spelled, version_back}
-use Rattle.mc_text.proofs.Written.{is_written, is_written_line, items_behind, lines_of-text}
+use Rattle.mc_text.proofs.Written.{is_written_line, items_behind, lines_of-text}
 use Rattle.mc_text.proofs.Written.{placed_items, placed_lines}
 use Rattle.mc_document.proofs.Joined.{joined, line_ended}
 
