@@ -4,17 +4,20 @@ use Rattle.std.proofs.Common.{map, take, drop, List, [], ◌∷◌, ◌++◌, le
 use Rattle.std.proofs.Common.{arith}
 use Rattle.std.specs.Prelude.{All, filter, find, option_to_list, slice_index_or, unwrap_or, is_none}
 use Rattle.std.specs.Prelude.{Option, Some, None}
-use Rattle.std.specs.Option.{is_some}
+use Rattle.std.specs.Option.{is_some, option_or}
 use Rattle.std.specs.List.{list_any}
 use Rattle.std.proofs.lemmas.Bool.{cases_eq, or_parts, or_from, true≢false, false≢true}
-use Rattle.std.proofs.lemmas.Bool.{true_from_ne_false}
+use Rattle.std.proofs.lemmas.Bool.{true_from_ne_false, eq-eqb}
+use Rattle.std.proofs.lemmas.List.{get_or_read_under}
 use Rattle.std.proofs.lemmas.List.Elements.{filter-append, All-from_recursion}
+use Rattle.std.proofs.lemmas.List.Folds.{find-append}
 use mathlib.Core.Path.{subst}
 use mathlib.Core.Logic.{inl, inr}
 use Rattle.mc_model.specs.Bits.{Bits}
 use Rattle.mc_model.specs.Numbers.{numbers_from}
 use Rattle.mc_model.specs.Graph.{OpenGraph, size, is_output, joins}
 use Rattle.mc_model.specs.Flow.{IsStuckSet}
+use Rattle.mc_model.proofs.NumberLists.{numbers_below-last}
 use Rattle.mc_model.specs.Choice.{CorrectsCausally, IsLeastCausalLayer, IsChosenCausalFlow}
 use Rattle.mc_model.specs.Choice.{IsChosenStuckSet}
 use Rattle.mc_make.proofs.MeasuringOrder.{IsWhere, where_all, all-weaker}
@@ -23,11 +26,12 @@ use Rattle.mc_graph.specs.Neighbours.{neighbours}
 use Rattle.mc_extract.specs.Rounds.{sole, is_some_of, taken_vertex, corrector}
 use Rattle.mc_extract.specs.Rounds.{rest_after, layer_after, next_after, IsSettled, IsAllTaken}
 use Rattle.mc_extract.specs.Finder.{unfound, left_in, layer_in, next_in, with_taker, found_after}
-use Rattle.mc_extract.specs.Finder.{all_found, IsAtEnd, SameLeft}
+use Rattle.mc_extract.specs.Finder.{all_found, IsAtEnd, SameLeft, first_taker, TakesBelow}
+use Rattle.mc_extract.specs.Finder.{NotesTakers}
 use Rattle.mc_extract.proofs.Places.{find_cases, find_least}
 use Rattle.mc_extract.proofs.Rounds.{find-same, corrector-same, left_within, chosen_stuck_set}
 use Rattle.mc_extract.proofs.Rounds.{chosen_causal_flow, same_or_other, settled_on}
-use Rattle.mc_extract.proofs.Rounds.{rounds_settle}
+use Rattle.mc_extract.proofs.Rounds.{rounds_settle, taken_by}
 
 -- ---- a list with two elements that pass
 
@@ -118,6 +122,42 @@ neighbours_below g w =
     (λ v h. let high = h.2 in omega arith) (neighbours g w)
     (where_all (joins g.edges w) 0 (size g)))
 
+-- ---- the first takers
+
+first_taker-more : (taken : List (Option ℕ)) (n u : ℕ) → first_taker taken (n + 1) u
+    ≡ option_or (first_taker taken n u)
+    (cond (is_some_of (slice_index_or taken n None) u) (Some n) None)
+first_taker-more taken n u =
+    let e : n + 1 ≡ suc n = omega arith in
+    let p : Bits = λ w. is_some_of (slice_index_or taken w None) u in
+    ap (λ (k : ℕ). find p (numbers_from 0 k)) e
+    ∙ ap (find p) (numbers_below-last n)
+    ∙ find-append p (numbers_from 0 n) (n ∷ [])
+
+pub notes_more : (taken takers later : List (Option ℕ)) (w : ℕ) → NotesTakers taken w takers →
+    length later ≡ length takers → ((u : ℕ) → slice_index_or later u None
+    ≡ option_or (slice_index_or takers u None)
+    (cond (is_some_of (slice_index_or taken w None) u) (Some w) None)) →
+    NotesTakers taken (w + 1) later
+notes_more taken takers later w notes long each = record {
+  all = long ∙ notes.all;
+  each = λ u l.
+      each u
+      ∙ ap (λ (o : Option ℕ). option_or o
+      (cond (is_some_of (slice_index_or taken w None) u) (Some w) None)) (notes.each u l)
+      ∙ sym (first_taker-more taken w u);
+}
+
+pub takes_below : (g : OpenGraph) (B : Bits) (taken : List (Option ℕ)) →
+    taken ≡ map (taken_vertex g B) (numbers_from 0 (size g)) → TakesBelow taken (size g)
+takes_below g B taken f w u l e =
+    let takes : taken_vertex g B w ≡ Some u =
+    sym (ap (λ (os : List (Option ℕ)). slice_index_or os w None) f
+    ∙ read_number (taken_vertex g B) (size g) w None l)
+    ∙ e in
+    let by = taken_by g B u w (ap (λ (o : Option ℕ). is_some_of o u) takes ∙ eq-eqb u u refl) in
+    by.only.vertex
+
 -- ---- one round
 
 pub left_is : (g : OpenGraph) (k v : ℕ) (found : List Found) → found ≡ all_found g k →
@@ -147,14 +187,12 @@ round_at g k v false o e f =
 pub round_found : (g : OpenGraph) (k v : ℕ) (found : List Found) (taken : List (Option ℕ))
     (d : Found) → v < size g → found ≡ all_found g k →
     taken ≡ map (taken_vertex g (left_in found)) (numbers_from 0 (size g)) →
-    with_taker (slice_index_or found v d) (k + 1)
-    (find (λ w. is_some_of (slice_index_or taken w None) v) (numbers_from 0 (size g)))
+    with_taker (slice_index_or found v d) (k + 1) (first_taker taken (size g) v)
     ≡ found_after g (k + 1) v
 unfolding rest_after layer_after next_after
 round_found g k v found taken d l e f =
     let more : suc k ≡ k + 1 = omega arith in
-    let taker : find (λ w. is_some_of (slice_index_or taken w None) v) (numbers_from 0 (size g))
-    ≡ corrector g (rest_after g k) v =
+    let taker : first_taker taken (size g) v ≡ corrector g (rest_after g k) v =
     find-same (λ w. is_some_of (slice_index_or taken w None) v)
     (λ w. is_some_of (taken_vertex g (left_in found) w) v) 0 (size g)
     (λ w low high.
@@ -168,27 +206,29 @@ round_found g k v found taken d l e f =
     ∙ round_at g k v (rest_after g k v) (corrector g (rest_after g k) v) refl refl
     ∙ ap (λ (n : ℕ). found_after g n v) more
 
+pub length_taken : (g : OpenGraph) (B : Bits) (taken : List (Option ℕ)) →
+    taken ≡ map (taken_vertex g B) (numbers_from 0 (size g)) → length taken ≡ size g
+length_taken g B taken e = ap length e ∙ length_numbers (taken_vertex g B) 0 (size g)
+
 -- the same, from what the calls of a round gave
-pub round_made : (g : OpenGraph) (k v count : ℕ) (found : List Found) (taken : List (Option ℕ))
-    (d : Found) {taker : Option ℕ} {one : Found} → v < count → count ≡ size g →
-    found ≡ all_found g k →
+pub round_made : (g : OpenGraph) (k v count : ℕ) (found : List Found)
+    (taken takers : List (Option ℕ)) (d : Found) {taker : Option ℕ} {one : Found} → v < count →
+    count ≡ size g → found ≡ all_found g k →
     taken ≡ map (taken_vertex g (left_in found)) (numbers_from 0 (size g)) →
-    taker ≡ find (λ w. is_some_of (slice_index_or taken w None) v) (numbers_from 0 count) →
+    NotesTakers taken count takers → taker ≡ slice_index_or takers v taker →
     one ≡ with_taker (slice_index_or found v d) (k + 1) taker → one ≡ found_after g (k + 1) v
-round_made g k v count found taken d {taker} {one} l many e f by made =
+round_made g k v count found taken takers d {taker} {one} l many e f notes read made =
+    let long = length_taken g (left_in found) taken f in
+    let all = notes.all in
     made
     ∙ ap (with_taker (slice_index_or found v d) (k + 1))
-    (by ∙ ap (λ (n : ℕ). find (λ w. is_some_of (slice_index_or taken w None) v) (numbers_from 0 n))
-    many)
+    (get_or_read_under takers v (length takers) taker None read (omega arith) refl
+    ∙ notes.each v (omega arith) ∙ ap (λ (n : ℕ). first_taker taken n v) many)
     ∙ round_found g k v found taken d (omega arith) e f
 
 pub length_found : (g : OpenGraph) (k : ℕ) (found : List Found) → found ≡ all_found g k →
     length found ≡ size g
 length_found g k found e = ap length e ∙ length_numbers (found_after g k) 0 (size g)
-
-pub length_taken : (g : OpenGraph) (B : Bits) (taken : List (Option ℕ)) →
-    taken ≡ map (taken_vertex g B) (numbers_from 0 (size g)) → length taken ≡ size g
-length_taken g B taken e = ap length e ∙ length_numbers (taken_vertex g B) 0 (size g)
 
 -- ---- the answer
 

@@ -1,12 +1,13 @@
 //! The finder of causal flows, by rounds (Mhalla and Perdrix 2008).
 
-ghost use Rattle.std.specs.Prelude.{◌≡◌, ◌<◌, ◌+◌, not, true, All, IfOk, None, find, filter};
-ghost use Rattle.std.specs.Prelude.{map, length, slice_index_or};
+ghost use Rattle.std.specs.Prelude.{◌≡◌, ◌<◌, ◌+◌, ℕ, not, true, cond, All, IfOk, Some, None};
+ghost use Rattle.std.specs.Prelude.{filter, map, length, slice_index_or};
+ghost use Rattle.std.specs.Option.{option_or};
 ghost use Rattle.mc_model.specs.Numbers.{numbers_from};
 ghost use Rattle.mc_model.specs.Graph.{size};
 ghost use Rattle.mc_extract.specs.Rounds.{sole, is_some_of, taken_vertex};
 ghost use Rattle.mc_extract.specs.Finder.{left_in, with_taker, all_found, IsAtEnd};
-ghost use Rattle.mc_extract.specs.Finder.{SameLeft};
+ghost use Rattle.mc_extract.specs.Finder.{SameLeft, TakesBelow, NotesTakers};
 
 use crate::found::Found;
 use mc_graph::OpenGraph;
@@ -70,27 +71,45 @@ fn all_taken<const H: usize>(
     Ok(taken)
 }
 
-fn is_some_of_it(one: Option<u16>, u: u16) -> bool
-    ensures { result ≡ is_some_of one u }
+/// Notes a vertex as the taker of the one that it takes, where none is noted yet.
+fn note_taker(takers: &mut [Option<u16>], one: Option<u16>, w: u16)
+    requires { (u : ℕ) → one ≡ Some u → u < length takers.old }
+    ensures length { length takers.new ≡ length takers.old }
+    ensures each { (u : ℕ) → slice_index_or takers.new u None ≡ option_or
+        (slice_index_or takers.old u None) (cond (is_some_of one u) (Some w) None) }
 {
-    match one {
-        Some(v) => v == u,
-        None => false,
+    if let Some(u) = one {
+        takers[u as usize] = takers[u as usize].or(Some(w));
     }
 }
 
-/// The first vertex that takes this one.
-fn taker_of(taken: &[Option<u16>], count: u16, u: u16) -> Option<u16>
-    requires { count ≡ length taken.now }
-    ensures { result
-        ≡ find (λ w. is_some_of (slice_index_or taken.now w None) u) (numbers_from 0 count) }
+/// Notes the first taker of each vertex.
+fn note_takers(takers: &mut [Option<u16>], taken: &[Option<u16>], count: u16)
+    requires all { count ≡ length taken.now }
+    requires below { TakesBelow taken.now count }
+    requires none { NotesTakers taken.now 0 takers.old }
+    ensures { NotesTakers taken.now count takers.new }
 {
     'vertices: for w in 0..count {
-        if is_some_of_it(taken[w as usize], u) {
-            return Some(w);
-        }
+        note_taker(takers, taken[w as usize], w);
     }
-    None
+}
+
+/// The first vertex that takes each vertex.
+fn first_takers(
+    alloc: Global,
+    taken: &[Option<u16>],
+    count: u16,
+) -> Result<Vec<Option<u16>>, Memory>
+    requires all { count ≡ length taken.now }
+    requires below { TakesBelow taken.now count }
+    ensures { IfOk result (λ takers. NotesTakers taken.now count takers.items) }
+{
+    let Ok(mut takers) = vec![in alloc; None; count as usize] else {
+        return Err(Memory);
+    };
+    note_takers(&mut takers, taken, count);
+    Ok(takers)
 }
 
 /// What is found of a vertex in a round with this number.
@@ -121,9 +140,10 @@ fn one_round<const H: usize>(
 {
     let taken = all_taken(alloc, g, found)?;
     let count = g.len();
+    let takers = first_takers(alloc, &taken, count)?;
     let mut later = Vec::new(alloc);
     'vertices: for v in 0..count {
-        let one = in_round(found[v as usize], rounds + 1, taker_of(&taken, count, v));
+        let one = in_round(found[v as usize], rounds + 1, takers[v as usize]);
         let Ok(()) = later.push(one) else {
             return Err(Memory);
         };
