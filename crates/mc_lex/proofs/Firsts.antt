@@ -189,13 +189,25 @@ some_at line column (b ∷ bs) n s =
     let some = some_by line column b (in_view bs) n (is_word_byte b) refl in
     rw on some
 
+-- the tokens of a line are those from `later` on, which stands behind n blanks, and there are some
+pub record HasFirst (line n : ℕ) (text later : List ℕ) : Type 0 where
+  pub item : Item
+  pub items : List Item
+  pub there : tokens line (1 + n) (in_view later) ≡ item ∷ items
+  pub here : tokens line 1 (in_view text) ≡ item ∷ items
+
 -- a line where a byte behind the blanks is read has a token
-pub tokens_some : (line : ℕ) (text : List ℕ)
-    → starts_seen (drop (prefix_len is_blank text) text) ≡ true → HasToken line 1 (in_view text)
-tokens_some line text seen_there =
-    let n = prefix_len is_blank text in
-    let s = some_at line (1 + n) (drop n text) (blanks-stop text) seen_there in
-    (s.0, (s.1.0, tokens-behind_blanks line 1 text ∙ s.1.1))
+pub tokens_some : (line n : ℕ) (text later : List ℕ) → n ≡ prefix_len is_blank text
+    → later ≡ drop n text → starts_seen later ≡ true → HasFirst line n text later
+tokens_some line n text later count back seen_there =
+    let no_blank : starts_blank later ≡ false = rw (back, count) (blanks-stop text) in
+    let some = some_at line (1 + n) later no_blank seen_there in
+    record {
+      item = some.0;
+      items = some.1.0;
+      there = some.1.1;
+      here = tokens-behind_blanks line 1 text ∙ rw (← count, ← back) some.1.1;
+    }
 
 none_at : (line column : ℕ) (bytes : List ℕ) → starts_seen bytes ≡ false
     → tokens line column (in_view bytes) ≡ []

@@ -37,14 +37,14 @@ pub record IsFirst (part : Part) (token : Token) (rest : Part) : Type 0 where
   pub within : rest.column + length rest.bytes.now ≤ part.column + length part.bytes.now
   pub shorter : length rest.bytes.now ≤ length part.bytes.now
 
--- `line` begins with the first line of the part that has a token
+-- `line` begins with the first token of the part, which stands before a line
 pub record IsFirstLine (part line : Part) : Type 0 where
   pub item : Item
   pub items : List Item
-  pub start : line.column ≡ 1
-  pub tokens_are : tokens line.line 1 (in_view line.bytes.now) ≡ item ∷ items
+  pub tokens_are : tokens_in line ≡ item ∷ items
   pub lines_are : lines_from part.line part.bytes.now
       ≡ line_of line.line item items ∷ lines_from (line.line + 1) (behind_feed line.bytes.now)
   pub within : line.line + length line.bytes.now ≤ part.line + length part.bytes.now
   pub some : 0 < length part.bytes.now
+  pub columns : line.column + length line.bytes.now ≤ length part.bytes.now + 1
   pub shorter : length line.bytes.now ≤ length part.bytes.now

@@ -69,21 +69,23 @@ pub(crate) fn later_part(part: Part<'_>, inside: bool) -> Part<'_>
     }
 }
 
-/// The first line with a token, and what stands behind. The part stands before a line.
+/// The first line with a token, from that token on, and what stands behind. The part stands before
+/// a line.
 pub(crate) fn find_line(part: Part<'_>) -> Option<Part<'_>>
-    requires { part.line + length part.bytes.now < 2 ^ 32 }
+    requires { part.line + length part.bytes.now + 1 < 2 ^ 32 }
     ensures none { IfNone result (lines_from part.entry.line part.entry.bytes.now ≡ []) }
     ensures found { IfSome result (λ line. IsFirstLine part.entry line) }
 {
     let mut line = part.line;
     let mut rest = part.bytes;
     'lines: while !rest.is_empty() {
-        let (_, bytes) = rest.split_at(blank_len(rest));
+        let blanks = blank_len(rest);
+        let (_, bytes) = rest.split_at(blanks);
         if is_seen(bytes) {
             return Some(Part {
-                bytes: rest,
+                bytes,
                 line,
-                column: 1,
+                column: 1 + blanks as u32,
             });
         }
         rest = behind_line(bytes);

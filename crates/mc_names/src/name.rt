@@ -10,6 +10,13 @@ use std::marker::Model;
 /// The most bytes that a name has.
 const MOST: usize = 16;
 
+/// At each letter, digit and `_` that byte itself, and `.` at all other bytes.
+const NAME_BYTES: [u8; 256] = *b"\
+    ................................................0123456789......\
+    .ABCDEFGHIJKLMNOPQRSTUVWXYZ...._.abcdefghijklmnopqrstuvwxyz.....\
+    ................................................................\
+    ................................................................";
+
 /// A name of 1 to 16 letters, digits and `_`; upper and lower case differ.
 #[derive(Clone, Copy, Debug)]
 pub struct Name {
@@ -71,7 +78,7 @@ impl Hash for Name {
 fn is_name_byte(b: u8) -> bool
     ensures { result ≡ name_byte b }
 {
-    b.is_ascii_alphanumeric() || b == b'_'
+    NAME_BYTES[b as usize] != b'.'
 }
 
 fn has_name_bytes(word: &[u8]) -> bool

@@ -1,4 +1,4 @@
-use Rattle.std.proofs.Common.{◌≡◌, ◌+◌, ◌<◌, sym, ◌∙◌, refl, ap, arith, length, drop, true, false}
+use Rattle.std.proofs.Common.{◌≡◌, ◌+◌, ◌<◌, sym, ◌∙◌, refl, ap, arith, length, drop, false}
 use Rattle.std.specs.List.{prefix_len}
 use Rattle.mc_lex.specs.Bytes.{is_blank}
 use Rattle.mc_lex.specs.First.{starts_seen}
@@ -12,20 +12,24 @@ pub returns-then-is_seen-clause-found : goal.returns-then-is_seen-clause-found
 returns-then-is_seen-clause-found c =
     let text = c.lines.rest.now in
     let n = c.lines.line in
-    let seen_there : starts_seen (drop (prefix_len is_blank text) text) ≡ true =
-    rw (← c.blank_len.ensures.len, ← c.split_at.ensures.back)
-    (sym c.is_seen.ensures ∙ c.if-is_seen.true) in
-    let some = tokens_some n text seen_there in
+    let blanks = c.blank_len-blanks.result in
+    let count = c.blank_len-blanks.ensures.len in
+    let back = c.split_at.ensures.back in
+    let seen_there = sym c.is_seen.ensures ∙ c.if-is_seen.true in
+    let first = tokens_some n blanks text c.split_at.result.1.now count back seen_there in
+    let behind : behind_feed c.split_at.result.1.now ≡ behind_feed text =
+    ap behind_feed back ∙ ap (λ k. behind_feed (drop k text)) count ∙ behind_blanks text in
+    let size = c.split_at.ensures.back_len in
     let inv = c.lines.invariant in
     record {
-      item = some.0;
-      items = some.1.0;
-      start = refl;
-      tokens_are = some.1.1;
-      lines_are = sym inv.same ∙ lines_first n text ∙ rw some.1.1 refl;
-      within = inv.within;
+      item = first.item;
+      items = first.items;
+      tokens_are = first.there;
+      lines_are = sym inv.same ∙ lines_first n text ∙ rw (first.here, behind) refl;
+      within = let within = inv.within in omega arith;
       some = grind arith;
-      shorter = inv.shorter;
+      columns = let shorter = inv.shorter in omega arith;
+      shorter = let shorter = inv.shorter in omega arith;
     }
 
 pub lines-preserved : goal.lines-preserved
@@ -34,12 +38,12 @@ lines-preserved c =
     let n = c.lines.line in
     let later = c.behind_line-rest.result.now in
     let unseen : starts_seen (drop (prefix_len is_blank text) text) ≡ false =
-    rw (← c.blank_len.ensures.len, ← c.split_at.ensures.back)
+    rw (← c.blank_len-blanks.ensures.len, ← c.split_at.ensures.back)
     (sym c.is_seen.ensures ∙ c.if-is_seen.false) in
     let none = tokens_none n text unseen in
     let behind : later ≡ behind_feed text =
     c.behind_line-rest.ensures.behind ∙ ap behind_feed c.split_at.ensures.back
-    ∙ ap (λ k. behind_feed (drop k text)) c.blank_len.ensures.len ∙ behind_blanks text in
+    ∙ ap (λ k. behind_feed (drop k text)) c.blank_len-blanks.ensures.len ∙ behind_blanks text in
     let lines : lines_from n text ≡ lines_from (n + 1) later =
     lines_first n text ∙ rw (none, behind) refl in
     let back = c.split_at.ensures.back_len in
