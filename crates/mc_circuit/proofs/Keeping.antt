@@ -1,173 +1,236 @@
--- How what is kept goes on with a word and with a line.
-use Rattle.std.proofs.Common.{◌≡◌, ℕ, List, [], ◌∷◌, ◌++◌, Bool, true, false, Option, Some, None}
-use Rattle.std.proofs.Common.{length, refl, sym, ap, arith, ◌==◌, ne_eqb, if◌then◌else◌, ◌⊎◌, inl}
-use Rattle.std.proofs.Common.{inr}
-use Rattle.std.specs.List.{IsDistinct}
-use Rattle.std.specs.Option.{option_map}
-use Rattle.std.specs.Cmp.Lexicographic.{nat_list_eq_equiv}
-use Rattle.std.proofs.lemmas.List.{append-nil, length-map}
-use Rattle.std.proofs.lemmas.Map.Keys.{IsDistinct-push}
-use Rattle.mc_model.specs.Names.{name_eq, is_name, is_held}
+-- The words and the end of a line of a gate with nothing against them are kept.
+use Rattle.std.proofs.Common.{◌≡◌, ℕ, List, [], ◌∷◌, ◌++◌, Option, Some, None, map, refl, sym}
+use Rattle.std.proofs.Common.{◌∙◌, arith, ◌≤◌, true, false}
+use Rattle.std.specs.List.{filter_map}
+use Rattle.std.specs.Option.{option_map, option_to_list}
+use Rattle.std.proofs.lemmas.List.{append-nil, map-append}
+use Rattle.std.proofs.lemmas.List.Elements.{filter_map-append}
 use Rattle.mc_angle.specs.Angle.{angle_of}
+use Rattle.mc_model.specs.Names.{Name, place_of}
+use Rattle.mc_model.specs.Pattern as plain
 use Rattle.mc_text.specs.declared.head.Head.{Head}
-use Rattle.mc_text.specs.declared.head.Head.TheVariants.{J, Cz, Out, End}
+use Rattle.mc_text.specs.declared.head.Head.TheVariants.{In, Plus, J, Cz, Out, End}
+use Rattle.mc_text.specs.declared.fault.Stop.{Stop}
 use Rattle.mc_text.specs.declared.point.Point.{Point}
 use Rattle.mc_text.specs.Heads.{head_of}
-use Rattle.mc_text.specs.Points.{point_of}
 use Rattle.mc_text.specs.Judged.{Words, Lines}
-use Rattle.mc_text.specs.Rules.{number_in, AreNumbers, listed_name}
-use Rattle.mc_text.specs.Lists.{names_at, added, operand_at}
-use Rattle.mc_text.proofs.Going.{head_at}
-use Rattle.mc_text.proofs.Kept.{count_at, numbers-word}
+use Rattle.mc_text.specs.Rules.{known_name, angle_word}
+use Rattle.mc_text.specs.Stops.{IsStop}
+use Rattle.mc_text.proofs.Kept.{place-more}
+use Rattle.mc_wires.specs.Kinds.{is_gate}
+use Rattle.mc_wires.specs.Kept.{HoldsOn, Stands, TakesGateWord, TakesGateEnd, StopsAtGateWord}
+use Rattle.mc_wires.specs.Kept.{begun_words}
+use Rattle.mc_circuit.specs.declared.gate.Gate.{Gate}
+use Rattle.mc_circuit.specs.declared.gate.Gate.TheVariants as gate
 use Rattle.mc_circuit.specs.declared.reader.Reader.{Reader}
-use Rattle.mc_circuit.specs.Roles.{may_follow, role_of, is_gate, is_output}
-use Rattle.mc_circuit.specs.Value.{spelled_by, spelled_gate, spelled_gates, gate_by}
-use Rattle.mc_circuit.specs.Judge.{judge_by, lacks_by, circuit_rules}
-use Rattle.mc_circuit.specs.Kept.{IsKept, Stands, Lists, is_closed, gate_with, next_gate}
+use Rattle.mc_circuit.specs.Gates.{plain_gate}
+use Rattle.mc_circuit.specs.Value.{Spelled, spelled_gate, spelled_gates, gate_by}
+use Rattle.mc_circuit.specs.Judge.{second_word, behind_operand, circuit_kind}
+use Rattle.mc_circuit.specs.Kept.{is_angled, HoldsGates, TakesSecond}
 
--- tests of record words
-out_head : (h : Option Head) → is_output h ≡ true → h ≡ Some Out
-out_head None e = absurd (cc e)
-out_head (Some Out) e = refl
-out_head (Some _) e = absurd (cc e)
-
-pub closed_head : (h : Option Head) → is_closed h ≡ true → (h ≡ Some Out) ⊎ (h ≡ Some End)
-closed_head None e = absurd (cc e)
-closed_head (Some Out) e = inl refl
-closed_head (Some End) e = inr refl
-closed_head (Some _) e = absurd (cc e)
-
--- behind the outputs stands `end`, and nothing behind that
-pub behind_closed : (last h : Option Head) → is_closed last ≡ true → may_follow last h ≡ true
-    → (last ≡ Some Out) × (h ≡ Some End)
-behind_closed last h closed follows =
-    elim (closed_head last closed) [
-      | inl out ↦ (out, end_behind h (rw out at follows))
-      | inr end ↦ absurd (none_behind h (rw end at follows))
-    ]
-  where
-    end_behind : (h : Option Head) → may_follow (Some Out) h ≡ true → h ≡ Some End
-    end_behind None e = absurd (cc e)
-    end_behind (Some End) e = refl
-    end_behind (Some _) e = absurd (cc e)
-
-    none_behind : (h : Option Head) → may_follow (Some End) h ≡ true → ⊥
-    none_behind None e = absurd (cc e)
-    none_behind (Some _) e = absurd (cc e)
-
--- what the words before say of a word
-pub operand_there : (before : Lines) (here : Words) (p : Point) → p ≡ point_of before here
-    → p.count ≡ 2 → is_gate p.head ≡ true → (a : List ℕ) × (operand_at 0 is_gate here ≡ Some a)
-operand_there before [] p e two gate =
-    let count = count_at before [] in
-    let two' = rw e at two in
-    absurd (omega arith)
-operand_there before (h ∷ []) p e two gate =
-    let count = count_at before (h ∷ []) in
-    let two' = rw e at two in
-    absurd (omega arith)
-operand_there before (h ∷ a ∷ words) p e two gate =
-    let gate' = rw (e, head_at before (h ∷ a ∷ words)) at gate in
-    (a, rw gate' refl)
-
-count_kept : {half : ℕ} (k : Reader half) (before : Lines) (here : Words) → IsKept k before here
-    → length (spelled_gates before) ≡ length k.gates.items
-count_kept {half} k before here h =
-    let same = ap length (h.gates []) in
-    sym (simp length-map at same)
-
-pub stands_at : {half : ℕ} (k : Reader half) (before : Lines) (here : Words) (p : Point)
-    → IsKept k before here → p ≡ point_of before here
-    → Stands k p (names_at is_output before here) (operand_at 0 is_gate here)
-stands_at k before here p h e = record {
-  are = h.outputs;
-  operand = λ two gate.
-      let a = operand_there before here p e two gate in
-      record { name = a.0; is = a.1; place = h.operand a.0 a.1 };
+pub begins : {half : ℕ} (k : Reader half) → k.gates.items ≡ [] → k.gate ≡ None
+    → (names : List Name) → HoldsGates k names [] []
+begins k gates gate names = record {
+  operand = λ h a more e. absurd (cc e);
+  gate = rw gate refl;
+  gates = rw gates refl;
 }
 
-pub same_judge : {half : ℕ} (k : Reader half) (before : Lines) (here : Words) (p : Point)
-    (word : List ℕ) → IsKept k before here → p ≡ point_of before here
-    → judge_by k.names (names_at is_output before here) (operand_at 0 is_gate here)
-    (length k.gates.items) p.last (role_of p) word
-    ≡ circuit_rules.judge before here word
-same_judge k before here p word h e = rw (e, h.names, count_kept k before here h) refl
+-- the first operand under the names themselves
+operand_is : {half : ℕ} (k : Reader half) (names : List Name) (lines : Lines) (h a : List ℕ)
+    → HoldsOn (HoldsGates k) names lines (h ∷ a ∷ []) → place_of names a ≡ Some k.operand
+operand_is k names lines h a had =
+    rw (append-nil names) at ((had []).operand h a [] refl)
 
-pub same_lacks : {half : ℕ} (k : Reader half) (before : Lines) (here : Words) (p : Point)
-    → IsKept k before here → p ≡ point_of before here
-    → lacks_by k.names (names_at is_output before here) (role_of p)
-    ≡ circuit_rules.lacks before here
-same_lacks k before here p h e = rw (e, h.names) refl
+-- ---- the first operand
 
--- the gate of a line with one more word
-same_gate : (half : ℕ) (names : List (List ℕ)) (h : Option Head) (a word : List ℕ) (wire : ℕ)
-    → (is_gate h ≡ true → number_in names a ≡ wire)
-    → gate_with h wire (number_in names word) (angle_of half word)
-    ≡ option_map (gate_by half names) (spelled_by h a word)
-same_gate half names None a word wire same = refl
-same_gate half names (Some J) a word wire same = rw (same refl) refl
-same_gate half names (Some Cz) a word wire same = rw (same refl) refl
-same_gate half names (Some _) a word wire same = refl
+operand_at : {half : ℕ} (k k' : Reader half) (names : List Name) (p : Point) (word : List ℕ)
+    (lines : Lines) (h : List ℕ) (words : Words) → p.count ≡ 1 → known_name names word ≡ None
+    → place_of names word ≡ Some k'.operand → k'.gate ≡ k.gate → k'.gates.items ≡ k.gates.items
+    → Stands circuit_kind p (h ∷ words)
+    → HoldsOn (HoldsGates k) names lines (begun_words (h ∷ words))
+    → (circuit_kind.judge names (h ∷ words) word ≡ None)
+    × HoldsOn (HoldsGates k') names lines (h ∷ (words ++ word ∷ []))
+operand_at k k' names p word lines h [] one known place gate gates stands had = (
+  known,
+  λ more. record {
+    operand = λ h' a rest e.
+        let same : word ≡ a = cc e in
+        rw (← same) (place-more names more word k'.operand place);
+    gate = rw gate (had more).gate;
+    gates = rw gates (had more).gates;
+  },
+)
+operand_at k k' names p word lines h (a ∷ words) one known place gate gates stands had =
+    let count = stands.count in
+    absurd (omega arith)
 
-spelled_many : (h a b : List ℕ) (words : Words) (word : List ℕ)
-    → spelled_gate (h ∷ a ∷ b ∷ (words ++ word ∷ [])) ≡ None
-spelled_many h a b [] word = refl
-spelled_many h a b (c ∷ words) word = refl
+pub took_operand : {half : ℕ} (k k' : Reader half) (names : List Name) (p : Point) (word : List ℕ)
+    → p.count ≡ 1 → known_name names word ≡ None → place_of names word ≡ Some k'.operand
+    → k'.gate ≡ k.gate → k'.gates.items ≡ k.gates.items
+    → TakesGateWord circuit_kind (HoldsGates k) (HoldsGates k') names p word
+took_operand k k' names p word one known place gate gates = λ lines h words stands had.
+    operand_at k k' names p word lines h words one known place gate gates stands had
 
-gate_at : (half : ℕ) (names : List (List ℕ)) (before : Lines) (here : Words) (wire : ℕ)
-    (word : List ℕ)
-    → ((a : List ℕ) → operand_at 0 is_gate here ≡ Some a → number_in names a ≡ wire)
-    → next_gate half names (point_of before here) wire word
-    ≡ option_map (gate_by half names) (spelled_gate (here ++ word ∷ []))
-gate_at half names before [] wire word same = refl
-gate_at half names before (h ∷ []) wire word same = refl
-gate_at half names before (h ∷ a ∷ []) wire word same =
-    same_gate half names (head_of h) a word wire (λ gate. same a (rw gate refl))
-gate_at half names before (h ∷ a ∷ b ∷ words) wire word same =
-    let count = count_at before (h ∷ a ∷ b ∷ words) in
-    let ne = ne_eqb (point_of before (h ∷ a ∷ b ∷ words)).count 2 (λ two. omega arith) in
-    rw (ne, spelled_many h a b words word) refl
+-- ---- what stands behind it
 
-pub gate_more : (half : ℕ) (names : List (List ℕ)) (before : Lines) (here : Words) (p : Point)
-    (wire : ℕ) (word : List ℕ) → p ≡ point_of before here
-    → ((a : List ℕ) → operand_at 0 is_gate here ≡ Some a → number_in names a ≡ wire)
-    → next_gate half names p wire word
-    ≡ option_map (gate_by half names) (spelled_gate (here ++ word ∷ []))
-gate_more half names before here p wire word e same =
-    rw e (gate_at half names before here wire word same)
+-- a gate by its two words
+whole_at : {half : ℕ} (k k' : Reader half) (names : List Name) (p : Point) (word : List ℕ)
+    (lines : Lines) (h : List ℕ) (words : Words) → p.count ≡ 2
+    → ((a : Name) → place_of names a ≡ Some k.operand
+    → behind_operand names p.head a word ≡ None)
+    → ((more : List Name) (a : Name) → place_of (names ++ more) a ≡ Some k.operand
+    → option_map (plain_gate {h = half}) k'.gate
+    ≡ option_map (gate_by half (names ++ more)) (spelled_gate (h ∷ a ∷ word ∷ [])))
+    → k'.operand ≡ k.operand → k'.gates.items ≡ k.gates.items
+    → Stands circuit_kind p (h ∷ words)
+    → HoldsOn (HoldsGates k) names lines (begun_words (h ∷ words))
+    → (circuit_kind.judge names (h ∷ words) word ≡ None)
+    × HoldsOn (HoldsGates k') names lines (h ∷ (words ++ word ∷ []))
+whole_at k k' names p word lines h [] two clean whole operand gates stands had =
+    let count = stands.count in
+    absurd (omega arith)
+whole_at k k' names p word lines h (a ∷ []) two clean whole operand gates stands had =
+    let due = clean a (operand_is k names lines h a had) in (
+      rw stands.head at due,
+      λ more. record {
+        operand = λ h' b rest e.
+            let same : a ≡ b = cc e in
+            rw (← same, operand) ((had more).operand h a [] refl);
+        gate = whole more a ((had more).operand h a [] refl);
+        gates = rw gates (had more).gates;
+      },
+    )
+whole_at k k' names p word lines h (a ∷ b ∷ words) two clean whole operand gates stands had =
+    let count = stands.count in
+    absurd (omega arith)
 
--- the outputs with one more word
-pub outputs_more : (names listed : List (List ℕ)) (outputs outputs' : List ℕ) (word : List ℕ)
-    (t s : Bool) → AreNumbers names listed outputs
-    → Lists names outputs outputs' (if t then [] else (if s then word ∷ [] else []))
-    → AreNumbers names (listed ++ (if t then [] else (if s then word ∷ [] else []))) outputs'
-outputs_more names listed outputs outputs' word true s are same =
-    rw (append-nil listed, same) are
-outputs_more names listed outputs outputs' word false true are m =
-    rw m.2 (numbers-word names listed outputs word m.0 m.1 are)
-outputs_more names listed outputs outputs' word false false are same =
-    rw (append-nil listed, same) are
+angled_is : (o : Option Head) → is_angled o ≡ true → o ≡ Some J
+angled_is None e = absurd (cc e)
+angled_is (Some J) e = refl
+angled_is (Some _) e = absurd (cc e)
 
-unlisted_by : (names list : List (List ℕ)) (word : List ℕ) (n h t : Bool) → is_name word ≡ n
-    → is_held names word ≡ h → is_held list word ≡ t → listed_name names list word ≡ None → t ≡ false
-unlisted_by names list word false h t e f l none = let none' = rw e at none in absurd (cc none')
-unlisted_by names list word true false t e f l none =
-    let none' = rw (e, f) at none in absurd (cc none')
-unlisted_by names list word true true true e f l none =
-    let none' = rw (e, f, l) at none in absurd (cc none')
-unlisted_by names list word true true false e f l none = refl
+second_is : (o : Option Head) → is_angled o ≡ false → is_gate circuit_kind o ≡ true → o ≡ Some Cz
+second_is None e gate = absurd (cc gate)
+second_is (Some J) e gate = absurd (cc e)
+second_is (Some Cz) e gate = refl
+second_is (Some In) e gate = absurd (cc gate)
+second_is (Some Plus) e gate = absurd (cc gate)
+second_is (Some Out) e gate = absurd (cc gate)
+second_is (Some End) e gate = absurd (cc gate)
+second_is (Some _) e gate = absurd (cc gate)
 
-pub distinct_more : (names listed : List (List ℕ)) (first : Option (List ℕ)) (gates : ℕ) (p : Point)
-    (word : List ℕ) (t s : Bool) → (p.count == 0) ≡ t → is_output p.head ≡ s
-    → judge_by names listed first gates p.last (role_of p) word ≡ None
-    → IsDistinct name_eq listed → IsDistinct name_eq (listed ++ added is_output p word)
-distinct_more names listed first gates p word true s e f clean apart =
-    rw (e, append-nil listed) apart
-distinct_more names listed first gates p word false false e f clean apart =
-    rw (e, f, append-nil listed) apart
-distinct_more names listed first gates p word false true e f clean apart =
-    let head = out_head p.head f in
-    let clean' : listed_name names listed word ≡ None = rw (e, head) at clean in
-    let new = unlisted_by names listed word (is_name word) (is_held names word) (is_held listed word)
-    refl refl refl clean' in
-    rw (e, f) (IsDistinct-push nat_list_eq_equiv listed word apart new)
+pub took_angle : {half : ℕ} (k k' : Reader half) (names : List Name) (p : Point) (word : List ℕ)
+    → p.count ≡ 2 → is_angled p.head ≡ true → angle_word word ≡ None
+    → k'.gate ≡ Some (gate.J k.operand (angle_of half word)) → k'.operand ≡ k.operand
+    → k'.gates.items ≡ k.gates.items
+    → TakesGateWord circuit_kind (HoldsGates k) (HoldsGates k') names p word
+took_angle {half} k k' names p word two angled clean gate operand gates = λ lines h words stands had.
+    let j = angled_is p.head angled in
+    let head : head_of h ≡ Some J = sym stands.head ∙ j in
+    whole_at k k' names p word lines h words two (λ a place. rw j clean)
+    (λ more a place. rw (gate, head, place) refl) operand gates stands had
+
+pub took_second : {half : ℕ} (k k' : Reader half) (names : List Name) (p : Point) (word : List ℕ)
+    → p.count ≡ 2 → is_angled p.head ≡ false → TakesSecond names k.operand k'.gate word
+    → k'.operand ≡ k.operand → k'.gates.items ≡ k.gates.items
+    → TakesGateWord circuit_kind (HoldsGates k) (HoldsGates k') names p word
+took_second {half} k k' names p word two other takes operand gates = λ lines h words stands had.
+    let cz = second_is p.head other (rw stands.head stands.gate) in
+    let head : head_of h ≡ Some Cz = sym stands.head ∙ cz in
+    whole_at k k' names p word lines h words two (λ a place. rw cz (takes.clean a place))
+    (λ more a place.
+    takes.gate_is
+    ∙ rw (head, place, place-more names more word takes.number takes.place) refl)
+    operand gates stands had
+
+stops_behind : {half : ℕ} (k : Reader half) (names : List Name) (p : Point) (word : List ℕ)
+    (stop : Stop) → p.count ≡ 2
+    → ((a : Name) → place_of names a ≡ Some k.operand
+    → IsStop stop (behind_operand names p.head a word))
+    → StopsAtGateWord circuit_kind (HoldsGates k) names p word stop
+stops_behind k names p word stop two stops = λ lines h words stands had.
+    at_words lines h words stands had
+  where
+    at_words : (lines : Lines) (h : List ℕ) (words : Words) → Stands circuit_kind p (h ∷ words)
+        → HoldsOn (HoldsGates k) names lines (begun_words (h ∷ words))
+        → IsStop stop (circuit_kind.judge names (h ∷ words) word)
+    at_words lines h [] stands had =
+        let count = stands.count in
+        absurd (omega arith)
+    at_words lines h (a ∷ []) stands had =
+        let due = stops a (operand_is k names lines h a had) in
+        rw stands.head at due
+    at_words lines h (a ∷ b ∷ words) stands had =
+        let count = stands.count in
+        absurd (omega arith)
+
+pub stops_angle : {half : ℕ} (k : Reader half) (names : List Name) (p : Point) (word : List ℕ)
+    (stop : Stop) → p.count ≡ 2 → is_angled p.head ≡ true → IsStop stop (angle_word word)
+    → StopsAtGateWord circuit_kind (HoldsGates k) names p word stop
+stops_angle k names p word stop two angled stops =
+    stops_behind k names p word stop two (λ a place. rw (angled_is p.head angled) stops)
+
+pub stops_second : {half : ℕ} (k : Reader half) (names : List Name) (p : Point) (word : List ℕ)
+    (stop : Stop) → p.count ≡ 2 → is_angled p.head ≡ false
+    → ((a : Name) → place_of names a ≡ Some k.operand → IsStop stop (second_word names a word))
+    → StopsAtGateWord circuit_kind (HoldsGates k) names p word stop
+stops_second k names p word stop two other stops =
+    stops_behind k names p word stop two (λ a place. by_head p.head other a (stops a place))
+  where
+    by_head : (o : Option Head) → is_angled o ≡ false → (a : Name)
+        → IsStop stop (second_word names a word) → IsStop stop (behind_operand names o a word)
+    by_head None e a due = due
+    by_head (Some J) e a due = absurd (cc e)
+    by_head (Some _) e a due = due
+
+-- ---- the end of the line
+
+gates_more : {half : ℕ} (f : Spelled → plain.Gate) (gates : List (Gate half))
+    (last : Option (Gate half)) (lines : Lines) (here : Words)
+    → map (plain_gate {h = half}) gates ≡ map f (spelled_gates lines)
+    → option_map (plain_gate {h = half}) last ≡ option_map f (spelled_gate here)
+    → map (plain_gate {h = half}) (gates ++ option_to_list last)
+    ≡ map f (spelled_gates (lines ++ here ∷ []))
+gates_more {half} f gates last lines here all one =
+    let line = line_gates last (spelled_gate here) refl one in
+    map-append (plain_gate {h = half}) gates (option_to_list last)
+    ∙ rw (
+      filter_map-append spelled_gate lines (here ∷ []),
+      map-append f (spelled_gates lines) (filter_map spelled_gate (here ∷ [])),
+      all,
+      line,
+    ) refl
+  where
+    line_gates : (gate : Option (Gate half)) (o : Option Spelled) → spelled_gate here ≡ o
+        → option_map (plain_gate {h = half}) gate ≡ option_map f o
+        → map f (filter_map spelled_gate (here ∷ []))
+        ≡ map (plain_gate {h = half}) (option_to_list gate)
+    line_gates None None e same = rw e refl
+    line_gates None (Some s) e same = absurd (cc same)
+    line_gates (Some g) None e same = absurd (cc same)
+    line_gates (Some g) (Some s) e same =
+        let one : plain_gate {h = half} g ≡ f s = cc same in
+        rw (e, one) refl
+
+whole_line : (p : Point) (h : List ℕ) (words : Words) → 3 ≤ p.count
+    → Stands circuit_kind p (h ∷ words)
+    → (circuit_kind.lacks (h ∷ words) ≡ None) × (begun_words (h ∷ words) ≡ h ∷ words)
+whole_line p h [] many stands = let count = stands.count in absurd (omega arith)
+whole_line p h (a ∷ []) many stands = let count = stands.count in absurd (omega arith)
+whole_line p h (a ∷ b ∷ words) many stands = (refl, refl)
+
+pub ended : {half : ℕ} (k k' : Reader half) (p : Point) → 3 ≤ p.count
+    → k'.gates.items ≡ k.gates.items ++ option_to_list k.gate → k'.gate ≡ None
+    → TakesGateEnd circuit_kind (HoldsGates k) (HoldsGates k') p
+ended {half} k k' p many gates none = λ names lines h words stands had.
+    let whole = whole_line p h words many stands in
+    let had' = rw whole.1 at had in (
+      whole.0,
+      λ more. record {
+        operand = λ h' a rest e. absurd (cc e);
+        gate = rw none refl;
+        gates = rw gates (gates_more (gate_by half (names ++ more)) k.gates.items k.gate lines
+            (h ∷ words) (had' more).gates (had' more).gate);
+      },
+    )

@@ -1,10 +1,6 @@
 pub mod Building
 pub mod Printing
 pub mod Operands
-pub mod Moving
 pub mod Keeping
-pub mod KeepingWord
-pub mod KeepingLine
-pub mod Spelling
-pub mod CleanLines
+pub mod Valid
 pub mod ReadBack

@@ -1,7 +1,6 @@
 pub mod Gates
 pub mod Circuits
 pub mod Canonical
-pub mod Roles
 pub mod Value
 pub mod Judge
 pub mod Kept

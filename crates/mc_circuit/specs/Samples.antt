@@ -9,9 +9,9 @@ use Rattle.mc_text.specs.declared.fault.Fault.TheVariants.{NotName, NotAngle, De
 use Rattle.mc_text.specs.declared.fault.Fault.TheVariants.{NotDefined, SameOperand, ListedTwice}
 use Rattle.mc_text.specs.declared.fault.Fault.TheVariants.{OutputsLack, TextEnds}
 use Rattle.mc_text.specs.Judged.{Judgement, fault, limit, Place, first_in_section, section_lines}
-use Rattle.mc_circuit.specs.Roles.{record_word}
+use Rattle.mc_wires.specs.Judge.{head_word}
 use Rattle.mc_circuit.specs.Value.{circuit_of}
-use Rattle.mc_circuit.specs.Judge.{judge_by, circuit_rules}
+use Rattle.mc_circuit.specs.Judge.{circuit_kind, circuit_rules}
 
 -- the first fault or limit of a section that is the whole text
 abbrev pub first : List ℕ → Option (Judgement × Place)
@@ -131,12 +131,12 @@ names_pass = refl
 pub rules_before_the_limit : circuit_rules.judge [] many (codes "a") ≡ Some (fault DefinedTwice)
 rules_before_the_limit = refl
 
-pub gates_pass : judge_by [] [] None 32768 (Some head.J) record_word (codes "cz") ≡ Some (limit 3 32769)
+pub gates_pass : head_word circuit_kind (Some head.J) 32768 (codes "cz") ≡ Some (limit 3 32769)
 gates_pass = refl
 
-pub last_gate : judge_by [] [] None 32767 (Some head.J) record_word (codes "cz") ≡ None
+pub last_gate : head_word circuit_kind (Some head.J) 32767 (codes "cz") ≡ None
 last_gate = refl
 
 pub order_before_the_limit :
-    judge_by [] [] None 32768 (Some head.J) record_word (codes "plus") ≡ Some (fault NotFixed)
+    head_word circuit_kind (Some head.J) 32768 (codes "plus") ≡ Some (fault NotFixed)
 order_before_the_limit = refl

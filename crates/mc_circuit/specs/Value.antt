@@ -8,7 +8,7 @@ use Rattle.mc_text.specs.Heads.{head_of}
 use Rattle.mc_text.specs.Judged.{Words, Lines}
 use Rattle.mc_text.specs.Rules.{number_in}
 use Rattle.mc_text.specs.Lists.{names_at}
-use Rattle.mc_circuit.specs.Roles.{is_defining, is_input, is_output}
+use Rattle.mc_wires.specs.Kinds.{is_defining, is_input, is_output}
 
 -- the words of a gate: a wire and an angle, or two wires
 pub data Spelled : Type 0 where

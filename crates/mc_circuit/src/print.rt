@@ -1,13 +1,12 @@
 //! Printing a circuit.
 
-ghost use Rattle.std.specs.Prelude.{◌≡◌, ◌++◌, ◌∷◌, [], ◌<◌, ◌≤◌, All, IfOk, OnOk, length, map};
-ghost use Rattle.std.specs.Prelude.{codes, take, drop};
+ghost use Rattle.std.specs.Prelude.{◌≡◌, ◌++◌, ◌∷◌, [], ◌<◌, IfOk, OnOk, length, map, codes};
 ghost use Rattle.mc_model.specs.Pattern.{J};
 ghost use Rattle.mc_model.specs.Valid.{GatesFit};
 ghost use Rattle.mc_write.specs.Text.{line_text, text_of};
 ghost use Rattle.mc_write.specs.Named.{name_at};
 ghost use Rattle.mc_circuit.specs.Gates.{plain_gate};
-ghost use Rattle.mc_circuit.specs.Canonical.{gate_line, plus_lines, circuit_text};
+ghost use Rattle.mc_circuit.specs.Canonical.{gate_line, circuit_text};
 
 use crate::circuit::Circuit;
 use crate::gate::Gate;
@@ -16,30 +15,9 @@ use mc_lex::Kind;
 use mc_model::Memory;
 use mc_names::Names;
 use mc_text::print_header;
-use mc_write::{add_name, add_names, add_names_between, add_number, end_line, start_line};
+use mc_wires::{print_outputs, print_wires};
+use mc_write::{add_name, add_number, end_line, start_line};
 use std::alloc::Global;
-
-fn print_inputs(text: &mut Vec<u8>, names: &Names, inputs: u16) -> Result<(), Memory>
-    requires { inputs ≤ length names.now }
-    ensures { OnOk result (text.new.items ≡ text.old.items ++ line_text (codes "in" ∷ take inputs names.now)) }
-{
-    start_line(text, b"in")?;
-    add_names_between(text, names, 0, inputs)?;
-    end_line(text)
-}
-
-/// The line of the wires that are no inputs, where there is one.
-fn print_plus(text: &mut Vec<u8>, names: &Names, inputs: u16) -> Result<(), Memory>
-    requires { inputs ≤ length names.now }
-    ensures { OnOk result (text.new.items ≡ text.old.items ++ text_of (plus_lines (drop inputs names.now))) }
-{
-    if inputs == names.len() {
-        return Ok(());
-    }
-    start_line(text, b"plus")?;
-    add_names_between(text, names, inputs, names.len())?;
-    end_line(text)
-}
 
 fn print_j<const H: usize>(
     text: &mut Vec<u8>,
@@ -97,23 +75,6 @@ fn print_gates<const H: usize>(
     Ok(())
 }
 
-fn print_outputs(text: &mut Vec<u8>, names: &Names, out: &[u16]) -> Result<(), Memory>
-    requires { All (λ q. q < length names.now) out.now }
-    ensures { OnOk result (text.new.items ≡
-        text.old.items ++ line_text (codes "out" ∷ map (name_at names.now) out.now)) }
-{
-    start_line(text, b"out")?;
-    add_names(text, names, out)?;
-    end_line(text)
-}
-
-fn print_end(text: &mut Vec<u8>) -> Result<(), Memory>
-    ensures { OnOk result (text.new.items ≡ text.old.items ++ line_text (codes "end" ∷ [])) }
-{
-    start_line(text, b"end")?;
-    end_line(text)
-}
-
 /// The canonical text of a circuit.
 pub fn print_circuit<const H: usize>(alloc: Global, circuit: &Circuit<H>) -> Result<Vec<u8>, Memory>
     ensures { IfOk result (λ text. text.items ≡ circuit_text H circuit.now) }
@@ -121,10 +82,8 @@ pub fn print_circuit<const H: usize>(alloc: Global, circuit: &Circuit<H>) -> Res
     let mut text = Vec::new(alloc);
     let names = circuit.names();
     print_header(&mut text, Kind::Circuit, 1, H)?;
-    print_inputs(&mut text, names, circuit.inputs())?;
-    print_plus(&mut text, names, circuit.inputs())?;
+    print_wires(&mut text, names, circuit.inputs())?;
     print_gates(&mut text, names, circuit.gates())?;
     print_outputs(&mut text, names, circuit.out())?;
-    print_end(&mut text)?;
     Ok(text)
 }

@@ -12,6 +12,7 @@ use crate::circuit::Circuit;
 use crate::reader::Reader;
 use mc_lex::{TextEnd, Words};
 use mc_text::read_section;
+use mc_wires::WireReader;
 use std::alloc::Global;
 
 /// Reads the lines of a circuit behind its header, through its `end`. `Refused` is the first fault and `Limit` the
@@ -28,15 +29,17 @@ pub fn read_circuit<const H: usize>(
     ensures further { IsFurther words.old words.new }
     ensures err { IfErr result (λ end. IsEnd end (first_in_section circuit_rules [] words.old.later words.old.last)) }
 {
-    let mut reader = Reader::new(alloc);
+    let mut reader = WireReader::new(alloc, Reader::new(alloc));
     if let Err(end) = read_section(words, &mut reader) {
         return Err(end);
     }
-    let _count = reader.names.len();
+    let wires = reader.wires;
+    let gates = reader.gates;
+    let _count = wires.names.len();
     Ok(Circuit {
-        names: reader.names,
-        inputs: reader.inputs,
-        gates: reader.gates,
-        out: reader.outputs,
+        names: wires.names,
+        inputs: wires.inputs,
+        gates: gates.gates,
+        out: wires.outputs,
     })
 }

@@ -1,49 +1,73 @@
-//! The section of a circuit.
+//! The gates of a circuit's section.
 
-ghost use Rattle.std.specs.Prelude.{[], IsTrue};
+ghost use Rattle.std.specs.Prelude.{List, [], IsTrue};
+ghost use Rattle.mc_model.specs.Names.{Name};
 ghost use Rattle.mc_model.specs.Steps.{is_permitted};
-ghost use Rattle.mc_circuit.specs.Kept.{IsKept};
+ghost use Rattle.mc_circuit.specs.Kept.{HoldsGates};
 
 use crate::reader::Reader;
-use crate::steps::{end_gate, take};
+use crate::steps::{is_angled, take_angle, take_gate, take_operand, take_second};
 use mc_names::Names;
-use mc_text::{Point, Section, Stop};
+use mc_text::{Fault, Head, Point, Stop};
+use mc_wires::Gates;
 use std::alloc::Global;
 
 impl<const H: usize> Reader<H> {
-    /// Before the first line.
+    /// Before the first gate.
     pub(crate) fn new(alloc: Global) -> Reader<H>
         requires { IsTrue (is_permitted H) }
-        ensures { IsKept result [] [] }
+        ensures { (names : List Name) → HoldsGates result names [] [] }
     {
         Reader {
-            names: Names::new(alloc),
-            inputs: 0,
             gates: Vec::new(alloc),
-            outputs: Vec::new(alloc),
             operand: 0,
             gate: None,
         }
     }
 }
 
-impl<const H: usize> Section for Reader<H> {
-    ghost use Rattle.mc_circuit.specs.Judge.{circuit_rules};
-    ghost use Rattle.mc_circuit.specs.Kept.{IsKept};
+impl<const H: usize> Gates for Reader<H> {
+    ghost use Rattle.mc_circuit.specs.Judge.{circuit_kind};
+    ghost use Rattle.mc_circuit.specs.Kept.{HoldsGates};
 
-    ghost rules = { λ _. circuit_rules };
+    ghost kind = { λ _. circuit_kind };
 
-    ghost means = { IsKept };
+    ghost holds = { HoldsGates };
 
-    fn word(&mut self, point: Point, word: &[u8]) -> Result<(), Stop> {
-        match take(self, point, word) {
+    fn is_gate(&self, head: Option<Head>) -> bool {
+        match head {
+            Some(Head::J | Head::Cz) => true,
+            _ => false,
+        }
+    }
+
+    fn word(&mut self, names: &Names, point: Point, word: &[u8]) -> Result<(), Stop> {
+        if point.count == 1 {
+            return match take_operand(names, &mut self.operand, word) {
+                Ok(()) => Ok(()),
+                Err(stop) => Err(stop),
+            };
+        }
+        if point.count != 2 {
+            return Err(Stop::Fault(Fault::Surplus));
+        }
+        if is_angled(point.head) {
+            return match take_angle(self.operand, &mut self.gate, word) {
+                Ok(()) => Ok(()),
+                Err(stop) => Err(stop),
+            };
+        }
+        match take_second(names, self.operand, &mut self.gate, word) {
             Ok(()) => Ok(()),
             Err(stop) => Err(stop),
         }
     }
 
     fn end_line(&mut self, point: Point) -> Result<(), Stop> {
-        match end_gate(self, point) {
+        if point.count < 3 {
+            return Err(Stop::Fault(Fault::LineEnds));
+        }
+        match take_gate(&mut self.gates, &mut self.gate) {
             Ok(()) => Ok(()),
             Err(stop) => Err(stop),
         }

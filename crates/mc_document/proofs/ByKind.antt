@@ -16,6 +16,8 @@ use Rattle.mc_circuit.specs.Circuits.{IsCircuit}
 use Rattle.mc_pattern.specs.Patterns.{IsPattern}
 use Rattle.mc_pattern_text.specs.Canonical.{pattern_text}
 use Rattle.mc_pattern_text.specs.Value.{pattern_of}
+use Rattle.mc_circuit.proofs.Valid.{clean_is_circuit}
+use Rattle.mc_gates_text.proofs.Valid.{clean_is_list}
 use Rattle.mc_pattern_text.proofs.SoundPatterns.{clean_is_pattern}
 use Rattle.mc_change_text.specs.Canonical.{change_text}
 use Rattle.mc_change_text.specs.Changes.{AreSets}
@@ -49,8 +51,6 @@ use Rattle.mc_document.proofs.PatternDocuments.{nothing_stands}
 use Rattle.mc_document.proofs.PatternDocuments.{pattern_clean, pattern_stepped, pattern_taken}
 use Rattle.mc_document.proofs.PatternDocuments.{pattern_valid, second_pattern_stands, trace_stands}
 use Rattle.mc_document.proofs.PatternDocuments.{traced_back, two_back}
-use Rattle.mc_document.proofs.SoundCircuits.{clean_is_circuit}
-use Rattle.mc_document.proofs.SoundGates.{clean_is_gate_list}
 use Rattle.mc_document.proofs.Taken.{branch_seen, certified_seen, circuit_seen, graphs_seen}
 use Rattle.mc_document.proofs.Taken.{one_seen, other_seen, source_seen, two_seen}
 
@@ -118,7 +118,7 @@ kind_valid few half permitted takes Graph version lines end free clean =
           (behind_section lines) end valid both.1,
     )
 kind_valid few half permitted takes Gates version lines end free clean =
-    clean_is_gate_list lines end (first_of_both _ _ clean).0
+    clean_is_list lines end (first_of_both _ _ clean).0
 kind_valid few half permitted takes _ version lines end free clean = absurd (cc free)
 
 pub spells_valid : ShortBoundsAreFew → (half : ℕ) → IsTrue (is_permitted half) → (takes : Takes)

@@ -12,11 +12,7 @@ pub mod Opening
 pub mod Seconds
 pub mod Taken
 pub mod Turns
-pub mod CircuitLines
-pub mod SoundCircuits
 pub mod RowLines
 pub mod SoundChanges
 pub mod SoundCerts
 pub mod SoundTraces
-pub mod GateLines
-pub mod SoundGates

@@ -3,7 +3,7 @@
 //!
 //! `document` has the type, how it is looked at and its canonical text, `takes` which kinds of document and of second
 //! section may stand, `turn` how many steps a turn has, `read` how a text is read, `second` how what stands behind the first
-//! section is, `print` the texts of two sections, `laws` and `valid` what is proved of texts and documents.
+//! section is, `print` the texts of two sections, `laws` what is proved of texts and documents.
 #![tactic(auto)]
 
 mod document;
@@ -15,15 +15,14 @@ mod takes;
 #[cfg(test)]
 mod tests;
 mod turn;
-mod valid;
 
 pub use document::{Document, Placed, print_document};
 pub use laws::{
     canonical_texts_are_read, canonical_texts_differ, clean_texts_spell_documents,
     taken_documents_are_seen,
 };
+pub use mc_circuit::clean_texts_spell_circuits;
 pub use print::{print_with_cert, print_with_change, print_with_trace};
 pub use read::{read_document, read_placed};
 pub use takes::Takes;
 pub use turn::turn_of;
-pub use valid::clean_texts_spell_circuits;

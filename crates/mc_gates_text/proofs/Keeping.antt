@@ -1,165 +1,114 @@
--- How what is kept goes on with a word and with a line.
-use Rattle.std.proofs.Common.{◌≡◌, ℕ, ◌≤◌, List, [], ◌∷◌, ◌++◌, Bool, true, false, Option, Some}
-use Rattle.std.proofs.Common.{None, length, refl, sym, ◌∙◌, ap₂, arith, ◌==◌, nat_le}
-use Rattle.std.proofs.Common.{if◌then◌else◌, ◌⊎◌, inl, inr}
-use Rattle.std.specs.List.{IsDistinct}
-use Rattle.std.specs.Cmp.Lexicographic.{nat_list_eq_equiv}
+-- The operands and the end of a line of a gate with nothing against them are kept.
+use Rattle.std.proofs.Common.{◌≡◌, ℕ, suc, ◌<◌, ◌≤◌, List, [], ◌∷◌, ◌++◌, true, false, Option}
+use Rattle.std.proofs.Common.{Some, None, length, map, min, refl, sym, ap, ◌∙◌, arith, nat_lt}
+use Rattle.std.specs.List.{filter_map}
+use Rattle.std.specs.Option.{option_to_list}
 use Rattle.std.proofs.lemmas.Bool.Decides.{nat_tests}
 use Rattle.std.proofs.lemmas.List.{append-nil}
-use Rattle.std.proofs.lemmas.Map.Keys.{IsDistinct-push}
-use Rattle.mc_model.specs.Names.{name_eq, is_name, is_held}
-use Rattle.mc_text.specs.declared.head.Head.{Head}
-use Rattle.mc_text.specs.declared.head.Head.TheVariants.{Out, End}
+use Rattle.std.proofs.lemmas.List.Elements.{filter_map-append}
+use Rattle.mc_model.specs.Names.{Name}
+use Rattle.mc_text.specs.declared.fault.Stop.{Stop}
 use Rattle.mc_text.specs.declared.point.Point.{Point}
-use Rattle.mc_text.specs.Points.{point_of}
+use Rattle.mc_text.specs.Heads.{head_of}
 use Rattle.mc_text.specs.Judged.{Words, Lines}
-use Rattle.mc_text.specs.Rules.{AreNumbers, listed_name}
-use Rattle.mc_text.specs.Lists.{names_in, names_at, added}
-use Rattle.mc_text.proofs.Going.{head_at}
-use Rattle.mc_text.proofs.Kept.{count_at, numbers-word, names_at-word}
-use Rattle.mc_circuit.specs.Roles.{is_output}
-use Rattle.mc_gates_text.specs.Words.{arity, is_gate}
-use Rattle.mc_gates_text.specs.Roles.{may_follow, role_of, operand, surplus}
-use Rattle.mc_gates_text.specs.Judge.{judge_by, lacks_by, operand_word, gates_rules}
-use Rattle.mc_gates_text.specs.Kept.{State, IsKept, Stands, Lists, is_closed}
-use Rattle.mc_gates_text.proofs.Tables.{gate_role}
+use Rattle.mc_text.specs.Rules.{AreNumbers}
+use Rattle.mc_text.specs.Stops.{IsStop}
+use Rattle.mc_text.proofs.Kept.{place-more, numbers-none, numbers-word, numbers-more}
+use Rattle.mc_wires.specs.Kept.{HoldsOn, Lists, Stands, TakesGateWord, TakesGateEnd}
+use Rattle.mc_wires.specs.Kept.{StopsAtGateWord, begun_words}
+use Rattle.mc_gates.specs.Gates.{Op}
+use Rattle.mc_gates.specs.Ops.{plain_op}
+use Rattle.mc_gates_text.specs.declared.reader.Reader.{Reader}
+use Rattle.mc_gates_text.specs.Words.{arity, op_with}
+use Rattle.mc_gates_text.specs.Value.{op_in}
+use Rattle.mc_gates_text.specs.Judge.{operand_word, gates_kind}
+use Rattle.mc_gates_text.specs.Kept.{HoldsOps}
+use Rattle.mc_gates_text.proofs.Tables.{arity_few}
 
--- tests of record words
-out_head : (h : Option Head) → is_output h ≡ true → h ≡ Some Out
-out_head None e = absurd (cc e)
-out_head (Some Out) e = refl
-out_head (Some _) e = absurd (cc e)
+pub begins : (k : Reader) → k.ops.items ≡ [] → k.operands.items ≡ [] → (names : List Name)
+    → HoldsOps k names [] []
+begins k ops operands names = record {
+  operands = rw operands (numbers-none names);
+  ops = rw ops refl;
+}
 
-pub closed_head : (h : Option Head) → is_closed h ≡ true → (h ≡ Some Out) ⊎ (h ≡ Some End)
-closed_head None e = absurd (cc e)
-closed_head (Some Out) e = inl refl
-closed_head (Some End) e = inr refl
-closed_head (Some _) e = absurd (cc e)
+-- the operands so far, under the names themselves
+operands_so_far : (k : Reader) (names : List Name) (lines : Lines) (h : List ℕ) (words : Words)
+    → HoldsOn (HoldsOps k) names lines (begun_words (h ∷ words))
+    → AreNumbers names words k.operands.items
+operands_so_far k names lines h [] had = rw (append-nil names) at (had []).operands
+operands_so_far k names lines h (a ∷ words) had = rw (append-nil names) at (had []).operands
 
--- behind the outputs stands `end`, and nothing behind that
-pub behind_closed : (last h : Option Head) → is_closed last ≡ true → may_follow last h ≡ true
-    → (last ≡ Some Out) × (h ≡ Some End)
-behind_closed last h closed follows =
-    elim (closed_head last closed) [
-      | inl out ↦ (out, end_behind h (rw out at follows))
-      | inr end ↦ absurd (none_behind h (rw end at follows))
-    ]
-  where
-    end_behind : (h : Option Head) → may_follow (Some Out) h ≡ true → h ≡ Some End
-    end_behind None e = absurd (cc e)
-    end_behind (Some End) e = refl
-    end_behind (Some _) e = absurd (cc e)
+-- whether a further word is an operand
+within : (l c n : ℕ) → c ≡ min (suc l) 4 → c ≤ n → n ≤ 3 → nat_lt l n ≡ true
+within l c n at le few = grind (arith, nat_tests)
 
-    none_behind : (h : Option Head) → may_follow (Some End) h ≡ true → ⊥
-    none_behind h e = absurd (cc e)
+past : (l c n : ℕ) → c ≡ min (suc l) 4 → n < c → n ≤ 3 → nat_lt l n ≡ false
+past l c n at lt few = grind (arith, nat_tests)
 
-pub stands_at : (k : State) (before : Lines) (here : Words) → IsKept k before here
-    → Stands k (names_at is_output before here) (names_in is_gate here)
-stands_at k before here h = record { outputs = h.outputs; operands = h.operands }
+room : (p : Point) (h : List ℕ) (words : Words) → Stands gates_kind p (h ∷ words)
+    → p.count ≤ arity p.head → nat_lt (length words) (arity (head_of h)) ≡ true
+room p h words stands le =
+    within (length words) p.count (arity (head_of h)) stands.count (rw stands.head at le)
+    (arity_few (head_of h))
 
--- the judgement by what is kept is that by the lines
-pub same_judge : (k : State) (before : Lines) (here : Words) (p : Point) (word : List ℕ)
-    → IsKept k before here → p ≡ point_of before here
-    → judge_by k.names (names_at is_output before here) (names_in is_gate here)
-    (length k.ops) p.last (role_of p) word
-    ≡ gates_rules.judge before here word
-same_judge k before here p word h e = rw (e, h.names, h.count) refl
+full : (p : Point) (h : List ℕ) (words : Words) → Stands gates_kind p (h ∷ words)
+    → arity p.head < p.count → nat_lt (length words) (arity (head_of h)) ≡ false
+full p h words stands lt =
+    past (length words) p.count (arity (head_of h)) stands.count (rw stands.head at lt)
+    (arity_few (head_of h))
 
-pub same_lacks : (k : State) (before : Lines) (here : Words) (p : Point)
-    → IsKept k before here → p ≡ point_of before here
-    → lacks_by k.names (names_at is_output before here) (role_of p)
-    ≡ gates_rules.lacks before here
-same_lacks k before here p h e = rw (e, h.names) refl
+pub took_operand : (k k' : Reader) (names : List Name) (p : Point) (word : List ℕ)
+    → p.count ≤ arity p.head
+    → ((earlier : List Name) → AreNumbers names earlier k.operands.items
+    → operand_word names earlier word ≡ None)
+    → Lists names k.operands.items k'.operands.items (word ∷ []) → k'.ops.items ≡ k.ops.items
+    → TakesGateWord gates_kind (HoldsOps k) (HoldsOps k') names p word
+took_operand k k' names p word le clean listed same = λ lines h words stands had.
+    let are = operands_so_far k names lines h words had in
+    let place = listed.1 in (
+      rw (room p h words stands le) (clean words are),
+      λ more. record {
+        operands = rw listed.2 (numbers-word (names ++ more) words k.operands.items word listed.0
+            (place-more names more word listed.0 place)
+            (numbers-more names more words k.operands.items are));
+        ops = rw same (had more).ops;
+      },
+    )
 
--- the operands of a line with one more word
-pub names_in-word : (test : Option Head → Bool) (before : Lines) (here : Words) (p : Point)
-    (word : List ℕ) → p ≡ point_of before here
-    → names_in test (here ++ word ∷ []) ≡ names_in test here ++ added test p word
-names_in-word test before here p word e =
-    let count : (point_of [] here).count ≡ p.count =
-    count_at [] here ∙ sym (count_at before here) ∙ rw e refl in
-    let head : (point_of [] here).head ≡ p.head =
-    head_at [] here ∙ sym (head_at before here) ∙ rw e refl in
-    names_at-word test [] here (point_of [] here) word refl
-    ∙ ap₂ (λ (n : ℕ) (h : Option Head). names_in test here
-    ++ (if n == 0 then [] else (if test h then word ∷ [] else []))) count head
+pub stops_operand : (k : Reader) (names : List Name) (p : Point) (word : List ℕ) (stop : Stop)
+    → p.count ≤ arity p.head
+    → ((earlier : List Name) → AreNumbers names earlier k.operands.items
+    → IsStop stop (operand_word names earlier word))
+    → StopsAtGateWord gates_kind (HoldsOps k) names p word stop
+stops_operand k names p word stop le stops = λ lines h words stands had.
+    rw (room p h words stands le) (stops words (operands_so_far k names lines h words had))
 
--- a list with one more word
-pub listed_more : (names listed : List (List ℕ)) (numbers numbers' : List ℕ) (word : List ℕ)
-    (t s : Bool) → AreNumbers names listed numbers
-    → Lists names numbers numbers' (if t then [] else (if s then word ∷ [] else []))
-    → AreNumbers names (listed ++ (if t then [] else (if s then word ∷ [] else []))) numbers'
-listed_more names listed numbers numbers' word true s are same = rw (append-nil listed, same) are
-listed_more names listed numbers numbers' word false true are m =
-    rw m.2 (numbers-word names listed numbers word m.0 m.1 are)
-listed_more names listed numbers numbers' word false false are same =
-    rw (append-nil listed, same) are
+filter_one : (f : Words → Option Op) (here : Words) (o : Option Op) → f here ≡ o
+    → filter_map f (here ∷ []) ≡ option_to_list (f here)
+filter_one f here None e = rw e refl
+filter_one f here (Some g) e = rw e refl
 
-unlisted_by : (names list : List (List ℕ)) (word : List ℕ) (n h t : Bool) → is_name word ≡ n
-    → is_held names word ≡ h → is_held list word ≡ t → listed_name names list word ≡ None
-    → t ≡ false
-unlisted_by names list word false h t e f l none = let none' = rw e at none in absurd (cc none')
-unlisted_by names list word true false t e f l none =
-    let none' = rw (e, f) at none in absurd (cc none')
-unlisted_by names list word true true true e f l none =
-    let none' = rw (e, f, l) at none in absurd (cc none')
-unlisted_by names list word true true false e f l none = refl
-
-pub distinct_more : (names listed earlier : List (List ℕ)) (gates : ℕ) (p : Point)
-    (word : List ℕ) (t s : Bool) → (p.count == 0) ≡ t → is_output p.head ≡ s
-    → judge_by names listed earlier gates p.last (role_of p) word ≡ None
-    → IsDistinct name_eq listed → IsDistinct name_eq (listed ++ added is_output p word)
-distinct_more names listed earlier gates p word true s e f clean apart =
-    rw (e, append-nil listed) apart
-distinct_more names listed earlier gates p word false false e f clean apart =
-    rw (e, f, append-nil listed) apart
-distinct_more names listed earlier gates p word false true e f clean apart =
-    let head = out_head p.head f in
-    let clean' : listed_name names listed word ≡ None = rw (e, head) at clean in
-    let new = unlisted_by names listed word (is_name word) (is_held names word)
-    (is_held listed word) refl refl refl clean' in
-    rw (e, f) (IsDistinct-push nat_list_eq_equiv listed word apart new)
-
--- a word behind a gate word that nothing is against is an operand of it
-pub operand_by : (names listed earlier : List (List ℕ)) (gates : ℕ) (last : Option Head)
-    (word : List ℕ) (n m : ℕ) (t : Bool) → nat_le n m ≡ t
-    → judge_by names listed earlier gates last (if nat_le n m then operand else surplus) word ≡ None
-    → (n ≤ m) × (operand_word names earlier word ≡ None)
-operand_by names listed earlier gates last word n m true e clean =
-    (grind (arith, nat_tests), rw e at clean)
-operand_by names listed earlier gates last word n m false e clean =
-    let clean' = rw e at clean in absurd (cc clean')
-
-pub operand_clean : (names listed earlier : List (List ℕ)) (gates : ℕ) (p : Point)
-    (word : List ℕ) → (p.count == 0) ≡ false → is_gate p.head ≡ true
-    → judge_by names listed earlier gates p.last (role_of p) word ≡ None
-    → (p.count ≤ arity p.head) × (operand_word names earlier word ≡ None)
-operand_clean names listed earlier gates p word e f clean =
-    let role : role_of p ≡ (if nat_le p.count (arity p.head) then operand else surplus) =
-    rw e (gate_role p.head p.count f) in
-    operand_by names listed earlier gates p.last word p.count (arity p.head)
-    (nat_le p.count (arity p.head)) refl (rw role at clean)
-
-free_by : (names earlier : List (List ℕ)) (word : List ℕ) (n h t : Bool) → is_name word ≡ n
-    → is_held names word ≡ h → is_held earlier word ≡ t → operand_word names earlier word ≡ None
-    → t ≡ false
-free_by names earlier word false h t e f l none = let none' = rw e at none in absurd (cc none')
-free_by names earlier word true false t e f l none =
-    let none' = rw (e, f) at none in absurd (cc none')
-free_by names earlier word true true true e f l none =
-    let none' = rw (e, f, l) at none in absurd (cc none')
-free_by names earlier word true true false e f l none = refl
-
-pub apart_more : (names listed earlier : List (List ℕ)) (gates : ℕ) (p : Point) (word : List ℕ)
-    (t s : Bool) → (p.count == 0) ≡ t → is_gate p.head ≡ s
-    → judge_by names listed earlier gates p.last (role_of p) word ≡ None
-    → IsDistinct name_eq earlier → IsDistinct name_eq (earlier ++ added is_gate p word)
-apart_more names listed earlier gates p word true s e f clean apart =
-    rw (e, append-nil earlier) apart
-apart_more names listed earlier gates p word false false e f clean apart =
-    rw (e, f, append-nil earlier) apart
-apart_more names listed earlier gates p word false true e f clean apart =
-    let clean' = (operand_clean names listed earlier gates p word e f clean).1 in
-    let new = free_by names earlier word (is_name word) (is_held names word) (is_held earlier word)
-    refl refl refl clean' in
-    rw (e, f) (IsDistinct-push nat_list_eq_equiv earlier word apart new)
+pub ended : (k k' : Reader) (p : Point) → arity p.head < p.count
+    → map plain_op k'.ops.items
+    ≡ map plain_op k.ops.items ++ option_to_list (op_with p.head k.operands.items)
+    → k'.operands.items ≡ [] → TakesGateEnd gates_kind (HoldsOps k) (HoldsOps k') p
+ended k k' p lt added none = λ names lines h words stands had. (
+  rw (full p h words stands lt) refl,
+  λ more.
+      let ns = names ++ more in
+      let here = h ∷ words in
+      let are = numbers-more names more words k.operands.items
+      (operands_so_far k names lines h words had) in
+      let one : op_in ns here ≡ op_with p.head k.operands.items =
+      rw stands.head (ap (op_with (head_of h)) (sym are.numbers_are)) in
+      record {
+        operands = rw none (numbers-none ns);
+        ops =
+            added
+            ∙ ap (λ (gs : List Op). gs ++ option_to_list (op_with p.head k.operands.items)) (had more).ops
+            ∙ sym (filter_map-append (op_in ns) lines (here ∷ [])
+            ∙ ap (λ (gs : List Op). filter_map (op_in ns) lines ++ gs)
+            (filter_one (op_in ns) here (op_in ns here) refl ∙ ap option_to_list one));
+      },
+)

@@ -1,13 +1,8 @@
-pub mod Operands
 pub mod Tables
 pub mod Distinct
-pub mod Keeping
-pub mod KeepingWord
-pub mod KeepingLine
-pub mod Spelling
-pub mod Printing
+pub mod Operands
 pub mod Spelled
-pub mod CleanLines
+pub mod Printing
+pub mod Keeping
+pub mod Valid
 pub mod ReadBack
-pub mod CleanSections
-pub mod ValidGates

@@ -1,5 +1,5 @@
 -- The operands of a gate.
-use Rattle.std.proofs.Common.{◌≡◌, ℕ, List, Bool, true, None, Some, refl, sym, ◌∙◌, false, nat_eq}
+use Rattle.std.proofs.Common.{◌≡◌, ℕ, List, true, None, Some, refl, sym, ◌∙◌, false, nat_eq}
 use Rattle.std.specs.List.{list_any}
 use Rattle.mc_model.specs.Names.{place_of, is_held}
 use Rattle.mc_text.specs.declared.fault.Fault.TheVariants.{SameOperand}
@@ -27,8 +27,3 @@ operand-clean names earlier numbers word q are known e any =
     let any' = rw are.numbers_are at any in
     let free : is_held earlier word ≡ false = sym same ∙ any' in
     rw (known, free) refl
-
-pub same_truth : (a b : Bool) → (a ≡ true → b ≡ true) → (b ≡ true → a ≡ true) → a ≡ b
-same_truth true b there back = sym (there refl)
-same_truth false true there back = back refl
-same_truth false false there back = refl

@@ -1,151 +1,35 @@
 -- The words of an operation's line.
-use Rattle.std.proofs.Common.{◌≡◌, ℕ, ◌<◌, List, [], ◌∷◌, true, false, Option, Some, length}
+use Rattle.std.proofs.Common.{◌≡◌, ℕ, ◌<◌, List, [], ◌∷◌, true, Some, length}
 use Rattle.std.proofs.Common.{map, refl}
 use Rattle.std.specs.List.{IsDistinct, AllByRecursion}
 use Rattle.mc_model.specs.Names.{Name, AreNames, name_eq}
 use Rattle.mc_write.specs.Named.{name_at}
-use Rattle.mc_text.specs.declared.head.Head.{Head}
-use Rattle.mc_text.specs.Heads.{head_of, spelling, is_end}
+use Rattle.mc_text.specs.Heads.{head_of, spelling}
 use Rattle.mc_text.proofs.Naming.{names_apart}
-use Rattle.mc_circuit.specs.Roles.{is_defining, is_input, is_output}
+use Rattle.mc_wires.specs.Kinds.{is_gate}
 use Rattle.mc_gates.specs.Gates.{Op, H, X, Z, S, Sdg, T, Tdg, Cx, Cz, Swap, Ccx, OpFits}
-use Rattle.mc_gates_text.specs.Words.{arity, is_gate, gate_word, operands, op_on}
-use Rattle.mc_gates_text.specs.Roles.{goes_on, may_follow}
+use Rattle.mc_gates_text.specs.Words.{arity, gate_word, operands, op_on}
+use Rattle.mc_gates_text.specs.Judge.{gates_kind}
 
 -- what the table says of the gate word of an operation
 pub record IsWordOf (g : Op) : Type 0 where
   pub word : head_of (spelling (gate_word g)) ≡ Some (gate_word g)
-  pub gate : is_gate (Some (gate_word g)) ≡ true
+  pub gate : is_gate gates_kind (Some (gate_word g)) ≡ true
   pub many : arity (Some (gate_word g)) ≡ length (operands g)
   pub op : op_on (gate_word g) (operands g) ≡ Some g
-  pub no_end : is_end (Some (gate_word g)) ≡ false
-  pub no_wires : is_defining (Some (gate_word g)) ≡ false
-  pub no_inputs : is_input (Some (gate_word g)) ≡ false
-  pub no_outputs : is_output (Some (gate_word g)) ≡ false
-  pub before : (h : Option Head) → goes_on h ≡ true → may_follow (Some (gate_word g)) h ≡ true
 
 pub word_of : (g : Op) → IsWordOf g
-word_of (H q) = record {
-  word = refl;
-  gate = refl;
-  many = refl;
-  op = refl;
-  no_end = refl;
-  no_wires = refl;
-  no_inputs = refl;
-  no_outputs = refl;
-  before = λ h e. e;
-}
-word_of (X q) = record {
-  word = refl;
-  gate = refl;
-  many = refl;
-  op = refl;
-  no_end = refl;
-  no_wires = refl;
-  no_inputs = refl;
-  no_outputs = refl;
-  before = λ h e. e;
-}
-word_of (Z q) = record {
-  word = refl;
-  gate = refl;
-  many = refl;
-  op = refl;
-  no_end = refl;
-  no_wires = refl;
-  no_inputs = refl;
-  no_outputs = refl;
-  before = λ h e. e;
-}
-word_of (S q) = record {
-  word = refl;
-  gate = refl;
-  many = refl;
-  op = refl;
-  no_end = refl;
-  no_wires = refl;
-  no_inputs = refl;
-  no_outputs = refl;
-  before = λ h e. e;
-}
-word_of (Sdg q) = record {
-  word = refl;
-  gate = refl;
-  many = refl;
-  op = refl;
-  no_end = refl;
-  no_wires = refl;
-  no_inputs = refl;
-  no_outputs = refl;
-  before = λ h e. e;
-}
-word_of (T q) = record {
-  word = refl;
-  gate = refl;
-  many = refl;
-  op = refl;
-  no_end = refl;
-  no_wires = refl;
-  no_inputs = refl;
-  no_outputs = refl;
-  before = λ h e. e;
-}
-word_of (Tdg q) = record {
-  word = refl;
-  gate = refl;
-  many = refl;
-  op = refl;
-  no_end = refl;
-  no_wires = refl;
-  no_inputs = refl;
-  no_outputs = refl;
-  before = λ h e. e;
-}
-word_of (Cx p q) = record {
-  word = refl;
-  gate = refl;
-  many = refl;
-  op = refl;
-  no_end = refl;
-  no_wires = refl;
-  no_inputs = refl;
-  no_outputs = refl;
-  before = λ h e. e;
-}
-word_of (Cz p q) = record {
-  word = refl;
-  gate = refl;
-  many = refl;
-  op = refl;
-  no_end = refl;
-  no_wires = refl;
-  no_inputs = refl;
-  no_outputs = refl;
-  before = λ h e. e;
-}
-word_of (Swap p q) = record {
-  word = refl;
-  gate = refl;
-  many = refl;
-  op = refl;
-  no_end = refl;
-  no_wires = refl;
-  no_inputs = refl;
-  no_outputs = refl;
-  before = λ h e. e;
-}
-word_of (Ccx p q r) = record {
-  word = refl;
-  gate = refl;
-  many = refl;
-  op = refl;
-  no_end = refl;
-  no_wires = refl;
-  no_inputs = refl;
-  no_outputs = refl;
-  before = λ h e. e;
-}
+word_of (H q) = record { word = refl; gate = refl; many = refl; op = refl }
+word_of (X q) = record { word = refl; gate = refl; many = refl; op = refl }
+word_of (Z q) = record { word = refl; gate = refl; many = refl; op = refl }
+word_of (S q) = record { word = refl; gate = refl; many = refl; op = refl }
+word_of (Sdg q) = record { word = refl; gate = refl; many = refl; op = refl }
+word_of (T q) = record { word = refl; gate = refl; many = refl; op = refl }
+word_of (Tdg q) = record { word = refl; gate = refl; many = refl; op = refl }
+word_of (Cx p q) = record { word = refl; gate = refl; many = refl; op = refl }
+word_of (Cz p q) = record { word = refl; gate = refl; many = refl; op = refl }
+word_of (Swap p q) = record { word = refl; gate = refl; many = refl; op = refl }
+word_of (Ccx p q r) = record { word = refl; gate = refl; many = refl; op = refl }
 
 -- the operands of an operation that fits
 pub below : (n : ℕ) (g : Op) → OpFits n g → AllByRecursion (λ q. q < n) (operands g)

@@ -1,14 +1,13 @@
 -- The table of gate words.
-use Rattle.std.proofs.Common.{◌≡◌, ℕ, ◌<◌, ◌≤◌, List, [], ◌∷◌, ◌++◌, true, false, Option, Some}
-use Rattle.std.proofs.Common.{None, length, refl, sym, ◌∙◌, arith, nat_eq, nat_le, if◌then◌else◌}
+use Rattle.std.proofs.Common.{◌≡◌, ℕ, ◌<◌, ◌≤◌, List, [], ◌∷◌, true, false, Option, Some}
+use Rattle.std.proofs.Common.{None, refl, sym, ◌∙◌, arith, nat_eq}
 use Rattle.std.specs.List.{IsDistinct, AllByRecursion}
 use Rattle.std.proofs.lemmas.Bool.{eq-eqb, true≢false}
 use Rattle.mc_text.specs.declared.head.Head.{Head}
 use Rattle.mc_text.specs.declared.head.Head.TheVariants as head
-use Rattle.mc_gates.specs.Gates.{Op, H, X, Z, S, Sdg, T, Tdg, Cx, Cz, Swap, Ccx, OpFits, OpsFit}
+use Rattle.mc_gates.specs.Gates.{Op, H, X, Z, S, Sdg, T, Tdg, Cx, Cz, Swap, Ccx, OpFits}
 use Rattle.mc_gates_text.specs.Words.{arity, is_gate, op_on_one, op_on_two, op_on_three}
 use Rattle.mc_gates_text.specs.Words.{op_with}
-use Rattle.mc_gates_text.specs.Roles.{role_in, operand, surplus}
 
 pub arity_few : (h : Option Head) → arity h ≤ 3
 arity_few None = omega arith
@@ -24,48 +23,6 @@ arity_few (Some head.Cz) = omega arith
 arity_few (Some head.Swap) = omega arith
 arity_few (Some head.Ccx) = omega arith
 arity_few (Some _) = omega arith
-
--- the words behind a gate word are operands, as many as it has
-pub gate_role : (h : Option Head) (n : ℕ) → is_gate h ≡ true
-    → role_in h n ≡ (if nat_le n (arity h) then operand else surplus)
-gate_role None n e = absurd (cc e)
-gate_role (Some head.In) n e = absurd (cc e)
-gate_role (Some head.Plus) n e = absurd (cc e)
-gate_role (Some head.Out) n e = absurd (cc e)
-gate_role (Some _) n e = refl
-
--- a gate word makes an operation of as many operands as it has
-one_made : (h : Head) (q : ℕ) → arity (Some h) ≡ 1 → (g : Op) × (op_on_one h q ≡ Some g)
-one_made head.H q e = (H q, refl)
-one_made head.X q e = (X q, refl)
-one_made head.Z q e = (Z q, refl)
-one_made head.S q e = (S q, refl)
-one_made head.Sdg q e = (Sdg q, refl)
-one_made head.T q e = (T q, refl)
-one_made head.Tdg q e = (Tdg q, refl)
-one_made _ q e = absurd (omega (arith, e))
-
-two_made : (h : Head) (p q : ℕ) → arity (Some h) ≡ 2 → (g : Op) × (op_on_two h p q ≡ Some g)
-two_made head.Cx p q e = (Cx p q, refl)
-two_made head.Cz p q e = (Cz p q, refl)
-two_made head.Swap p q e = (Swap p q, refl)
-two_made _ p q e = absurd (omega (arith, e))
-
-three_made : (h : Head) (p q r : ℕ) → arity (Some h) ≡ 3
-    → (g : Op) × (op_on_three h p q r ≡ Some g)
-three_made head.Ccx p q r e = (Ccx p q r, refl)
-three_made _ p q r e = absurd (omega (arith, e))
-
-pub makes_op : (h : Option Head) (qs : List ℕ) → is_gate h ≡ true → length qs ≡ arity h
-    → (g : Op) × (op_with h qs ≡ Some g)
-makes_op None qs e l = absurd (cc e)
-makes_op (Some h) [] e l = let e' = rw (← l) at e in absurd (cc e')
-makes_op (Some h) (q ∷ []) e l = one_made h q (sym l)
-makes_op (Some h) (p ∷ q ∷ []) e l = two_made h p q (sym l)
-makes_op (Some h) (p ∷ q ∷ r ∷ []) e l = three_made h p q r (sym l)
-makes_op (Some h) (p ∷ q ∷ r ∷ s ∷ qs) e l =
-    let few = arity_few (Some h) in
-    absurd (omega arith)
 
 -- another word makes none
 no_one : (h : Head) (q : ℕ) → is_gate (Some h) ≡ false → op_on_one h q ≡ None
@@ -143,27 +100,3 @@ op_fits n (Some h) (p ∷ q ∷ r ∷ []) g e under distinct =
       apart q r distinct.1.0.0,
     )
 op_fits n (Some h) (p ∷ q ∷ r ∷ s ∷ qs) g e under distinct = absurd (cc e)
-
--- on more wires too
-op_fits-more : (n m : ℕ) (g : Op) → n ≤ m → OpFits n g → OpFits m g
-unfolding OpFits
-op_fits-more n m (H q) more h = omega (arith, h)
-op_fits-more n m (X q) more h = omega (arith, h)
-op_fits-more n m (Z q) more h = omega (arith, h)
-op_fits-more n m (S q) more h = omega (arith, h)
-op_fits-more n m (Sdg q) more h = omega (arith, h)
-op_fits-more n m (T q) more h = omega (arith, h)
-op_fits-more n m (Tdg q) more h = omega (arith, h)
-op_fits-more n m (Cx p q) more h = (omega (arith, h.0), omega (arith, h.1), h.2)
-op_fits-more n m (Cz p q) more h = (omega (arith, h.0), omega (arith, h.1), h.2)
-op_fits-more n m (Swap p q) more h = (omega (arith, h.0), omega (arith, h.1), h.2)
-op_fits-more n m (Ccx p q r) more h =
-    (omega (arith, h.0), omega (arith, h.1), omega (arith, h.2), h.3, h.4, h.5)
-
-pub ops_fit-more : (n m : ℕ) (gs : List Op) → n ≤ m → OpsFit n gs → OpsFit m gs
-ops_fit-more n m [] more h = tt
-ops_fit-more n m (g ∷ gs) more h = (op_fits-more n m g more h.0, ops_fit-more n m gs more h.1)
-
-pub ops_fit-append : (n : ℕ) (gs hs : List Op) → OpsFit n gs → OpsFit n hs → OpsFit n (gs ++ hs)
-ops_fit-append n [] hs f h = h
-ops_fit-append n (g ∷ gs) hs f h = (f.0, ops_fit-append n gs hs f.1 h)

@@ -9,9 +9,9 @@ use Rattle.mc_text.specs.declared.fault.Fault.TheVariants.{NotName, DefinedTwice
 use Rattle.mc_text.specs.declared.fault.Fault.TheVariants.{SameOperand, ListedTwice, OutputsLack}
 use Rattle.mc_text.specs.declared.fault.Fault.TheVariants.{TextEnds}
 use Rattle.mc_text.specs.Judged.{Judgement, fault, limit, Place, first_in_section, section_lines}
-use Rattle.mc_gates_text.specs.Roles.{record_word}
+use Rattle.mc_wires.specs.Judge.{head_word}
 use Rattle.mc_gates_text.specs.Value.{gate_list_of}
-use Rattle.mc_gates_text.specs.Judge.{judge_by, gates_rules}
+use Rattle.mc_gates_text.specs.Judge.{gates_kind, gates_rules}
 use Rattle.mc_gates_text.specs.Canonical.{gates_text}
 
 -- the first fault or limit of a section that is the whole text
@@ -110,8 +110,8 @@ pub names_pass : gates_rules.judge [] many (codes "b") ≡ Some (limit 2 257)
 names_pass = refl
 
 pub gates_pass :
-    judge_by [] [] [] 32768 (Some head.Ccx) record_word (codes "tdg") ≡ Some (limit 3 32769)
+    head_word gates_kind (Some head.Ccx) 32768 (codes "tdg") ≡ Some (limit 3 32769)
 gates_pass = refl
 
-pub last_gate : judge_by [] [] [] 32767 (Some head.Ccx) record_word (codes "tdg") ≡ None
+pub last_gate : head_word gates_kind (Some head.Ccx) 32767 (codes "tdg") ≡ None
 last_gate = refl

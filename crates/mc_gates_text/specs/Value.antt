@@ -5,7 +5,7 @@ use Rattle.mc_text.specs.Heads.{head_of}
 use Rattle.mc_text.specs.Judged.{Words, Lines}
 use Rattle.mc_text.specs.Rules.{number_in}
 use Rattle.mc_text.specs.Lists.{names_at}
-use Rattle.mc_circuit.specs.Roles.{is_defining, is_input, is_output}
+use Rattle.mc_wires.specs.Kinds.{is_defining, is_input, is_output}
 use Rattle.mc_gates.specs.Gates.{Op, GateList}
 use Rattle.mc_gates_text.specs.Words.{op_with}
 

@@ -6,7 +6,7 @@ ghost use Rattle.mc_lex.specs.Lines.{Line, lines_of, end_of};
 ghost use Rattle.mc_text.specs.Headers.{header_words};
 ghost use Rattle.mc_text.specs.Judged.{first_in_section, section_lines, behind_section, words_of};
 ghost use Rattle.mc_text.specs.Judged.{Place};
-ghost use Rattle.mc_circuit.specs.Canonical.{behind_header};
+ghost use Rattle.mc_wires.specs.Canonical.{behind_header};
 ghost use Rattle.mc_gates.specs.Gates.{GateList};
 ghost use Rattle.mc_gates.specs.Lists.{IsGateList};
 ghost use Rattle.mc_gates_text.specs.Judge.{gates_rules};

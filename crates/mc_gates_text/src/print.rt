@@ -1,11 +1,9 @@
 //! Printing a gate list.
 
-ghost use Rattle.std.specs.Prelude.{◌≡◌, ◌++◌, ◌∷◌, [], ◌<◌, ◌≤◌, All, IfOk, OnOk, length, map};
-ghost use Rattle.std.specs.Prelude.{codes, take, drop};
+ghost use Rattle.std.specs.Prelude.{◌≡◌, ◌++◌, ◌∷◌, [], ◌<◌, All, IfOk, OnOk, length, map};
 ghost use Rattle.mc_text.specs.Heads.{spelling};
 ghost use Rattle.mc_write.specs.Text.{line_text, text_of};
 ghost use Rattle.mc_write.specs.Named.{name_at};
-ghost use Rattle.mc_circuit.specs.Canonical.{plus_lines};
 ghost use Rattle.mc_gates.specs.Gates.{OpFits, OpsFit};
 ghost use Rattle.mc_gates.specs.Ops.{plain_op};
 ghost use Rattle.mc_gates_text.specs.Canonical.{op_line, gates_text};
@@ -15,30 +13,9 @@ use mc_lex::Kind;
 use mc_model::Memory;
 use mc_names::Names;
 use mc_text::{Head, print_header};
-use mc_write::{add_names, add_names_between, end_line, start_line};
+use mc_wires::{print_outputs, print_wires};
+use mc_write::{add_names, end_line, start_line};
 use std::alloc::Global;
-
-fn print_inputs(text: &mut Vec<u8>, names: &Names, inputs: u16) -> Result<(), Memory>
-    requires { inputs ≤ length names.now }
-    ensures { OnOk result (text.new.items ≡ text.old.items ++ line_text (codes "in" ∷ take inputs names.now)) }
-{
-    start_line(text, b"in")?;
-    add_names_between(text, names, 0, inputs)?;
-    end_line(text)
-}
-
-/// The line of the wires that are no inputs, where there is one.
-fn print_plus(text: &mut Vec<u8>, names: &Names, inputs: u16) -> Result<(), Memory>
-    requires { inputs ≤ length names.now }
-    ensures { OnOk result (text.new.items ≡ text.old.items ++ text_of (plus_lines (drop inputs names.now))) }
-{
-    if inputs == names.len() {
-        return Ok(());
-    }
-    start_line(text, b"plus")?;
-    add_names_between(text, names, inputs, names.len())?;
-    end_line(text)
-}
 
 /// A line of a record word and the names with some numbers.
 fn print_named(text: &mut Vec<u8>, head: Head, names: &Names, numbers: &[u16]) -> Result<(), Memory>
@@ -118,13 +95,6 @@ fn print_ops(text: &mut Vec<u8>, names: &Names, ops: &[Op]) -> Result<(), Memory
     Ok(())
 }
 
-fn print_end(text: &mut Vec<u8>) -> Result<(), Memory>
-    ensures { OnOk result (text.new.items ≡ text.old.items ++ line_text (codes "end" ∷ [])) }
-{
-    start_line(text, b"end")?;
-    end_line(text)
-}
-
 /// The canonical text of a gate list.
 pub fn print_gates(alloc: Global, gates: &GateList) -> Result<Vec<u8>, Memory>
     ensures { IfOk result (λ text. text.items ≡ gates_text gates.now) }
@@ -132,10 +102,8 @@ pub fn print_gates(alloc: Global, gates: &GateList) -> Result<Vec<u8>, Memory>
     let mut text = Vec::new(alloc);
     let names = gates.names();
     print_header(&mut text, Kind::Gates, 1, 4)?;
-    print_inputs(&mut text, names, gates.inputs())?;
-    print_plus(&mut text, names, gates.inputs())?;
+    print_wires(&mut text, names, gates.inputs())?;
     print_ops(&mut text, names, gates.ops())?;
-    print_named(&mut text, Head::Out, names, gates.out())?;
-    print_end(&mut text)?;
+    print_outputs(&mut text, names, gates.out())?;
     Ok(text)
 }

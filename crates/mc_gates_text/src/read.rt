@@ -11,6 +11,7 @@ use crate::reader::Reader;
 use mc_gates::GateList;
 use mc_lex::{TextEnd, Words};
 use mc_text::read_section;
+use mc_wires::WireReader;
 use std::alloc::Global;
 
 /// Reads the lines of a gate list behind its header, through its `end`. `Refused` is the first fault and `Limit` the
@@ -23,10 +24,12 @@ pub fn read_gates(alloc: Global, words: &mut Words<'_>) -> Result<GateList, Text
     ensures further { IsFurther words.old words.new }
     ensures err { IfErr result (λ end. IsEnd end (first_in_section gates_rules [] words.old.later words.old.last)) }
 {
-    let mut reader = Reader::new(alloc);
+    let mut reader = WireReader::new(alloc, Reader::new(alloc));
     if let Err(end) = read_section(words, &mut reader) {
         return Err(end);
     }
-    let _count = reader.names.len();
-    Ok(GateList::new(reader.names, reader.inputs, reader.ops, reader.outputs))
+    let wires = reader.wires;
+    let gates = reader.gates;
+    let _count = wires.names.len();
+    Ok(GateList::new(wires.names, wires.inputs, gates.ops, wires.outputs))
 }

@@ -27,7 +27,7 @@ pub record Done {K : Type 0} (rules_of : K → Rules) (means : K → Lines → W
   pub lines : section_lines all ≡ before ++ section_lines left
   pub behind : behind_section all ≡ behind_section left
 
-last_head-more : (before : Lines) (words : Words) → last_head (before ++ words ∷ []) ≡ head_in words
+pub last_head-more : (before : Lines) (words : Words) → last_head (before ++ words ∷ []) ≡ head_in words
 last_head-more before words =
     fold-append (λ (last : Option Head) line. head_in line) None before (words ∷ [])
 

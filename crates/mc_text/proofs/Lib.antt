@@ -8,5 +8,8 @@ pub mod Listed
 pub mod Sections
 pub mod Written
 pub mod Clean
+pub mod Behind
+pub mod Unbroken
+pub mod HeadersWritten
 pub mod Naming
 pub mod HeadersBack

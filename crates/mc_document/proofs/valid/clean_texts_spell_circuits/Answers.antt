@@ -1,5 +1,0 @@
-use Rattle.mc_document.proofs.SoundCircuits.{clean_is_circuit}
-use Rattle.mc_document.proofs.valid.clean_texts_spell_circuits.Goals as goal
-
-pub returns : goal.returns
-returns g c = λ lines last clean. clean_is_circuit g.row.H lines last c.requires clean

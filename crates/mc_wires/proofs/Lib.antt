@@ -1,0 +1,6 @@
+pub mod Lines
+pub mod Words
+pub mod Keeping
+pub mod Whole
+pub mod Sound
+pub mod Printing

@@ -1,0 +1,4 @@
+pub mod Kinds
+pub mod Judge
+pub mod Kept
+pub mod Canonical
