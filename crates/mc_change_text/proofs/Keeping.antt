@@ -1,63 +1,84 @@
 -- What is kept of the rows of a change, with one row more.
-use Rattle.std.proofs.Common.{◌≡◌, ℕ, Bool, true, false, ◌||◌, List, [], ◌∷◌, ◌++◌, length}
-use Rattle.std.proofs.Common.{map, refl, sym, ap, ◌∙◌, arith, nat_eq, inl, inr}
+use Rattle.std.proofs.Common.{◌≡◌, ℕ, suc, Bool, true, false, List, [], ◌∷◌, ◌++◌, length}
+use Rattle.std.proofs.Common.{Option, Some, None, slice_get, refl, sym, ap, ◌∙◌, arith, inl, inr}
+use Rattle.std.proofs.Common.{length-append, not}
 use Rattle.std.proofs.Math.Seq.{take-append_seam}
+use Rattle.std.proofs.lemmas.Bool.{eqb-true}
 use Rattle.std.proofs.lemmas.List.{map-append, length-map, take-append-le}
 use Rattle.std.proofs.lemmas.List.Elements.{All-push}
-use Rattle.std.proofs.lemmas.List.Folds.{list_any-append}
 use Rattle.std.proofs.lemmas.Option.{slice_get_within}
 use Rattle.mc_model.specs.Numbers.{is_member}
 use Rattle.mc_model.specs.Signals.{IsRising}
-use Rattle.mc_model.specs.Shift.{ChangeRow, AreEarlier, qubits_of}
+use Rattle.mc_model.specs.Shift.{ChangeRow, AreEarlier}
+use Rattle.mc_text.specs.declared.head.Head.{Head}
+use Rattle.mc_text.specs.declared.head.Head.TheVariants.{O, End}
+use Rattle.mc_text.specs.declared.fault.Fault.TheVariants.{OtherRow, NotMeasured}
+use Rattle.mc_text.specs.Heads.{is_end}
+use Rattle.mc_text.proofs.Unbroken.{not_false, unbroken}
 use Rattle.mc_rows.specs.declared.row.Row.{Row}
-use Rattle.mc_change_text.specs.Kinds.{change_row, names_of}
+use Rattle.mc_rows.specs.Kept.{Passes}
+use Rattle.mc_rows.proofs.Printing.{taken_more}
+use Rattle.mc_change_text.specs.Kinds.{change_kind, change_row, follows_in_change, is_this, names_of}
 use Rattle.mc_change_text.specs.Kept.{IsChangeSoFar}
 use Rattle.mc_change_text.proofs.Lists.{more_get}
 
-pub qubits_are : (rows : List Row) → qubits_of (map change_row rows) ≡ names_of rows
-qubits_are [] = refl
-qubits_are (row ∷ rows) = ap (λ (qs : List ℕ). row.name ∷ qs) (qubits_are rows)
+this_one : (due : Option ℕ) (q : ℕ) → is_this due q ≡ true → due ≡ Some q
+this_one None q e = absurd (cc e)
+this_one (Some due) q e = ap Some (eqb-true due q e)
 
-earlier_more : (change : List ChangeRow) (row : ChangeRow) → AreEarlier (qubits_of change) change
-    → ((q : ℕ) → is_member row.signal.members q ≡ true → is_member (qubits_of change) q ≡ true)
-    → AreEarlier (qubits_of (change ++ row ∷ [])) (change ++ row ∷ [])
-earlier_more change row earlier last i r get q is =
-    let qubits = qubits_of change in
-    let len : length qubits ≡ length change =
-    length-map change (λ (r : ChangeRow). r.qubit) in
-    let split : qubits_of (change ++ row ∷ []) ≡ qubits ++ row.qubit ∷ [] =
-    map-append (λ (r : ChangeRow). r.qubit) change (row ∷ []) in
+-- a line that is not the last one is a row of the change
+row_head : (last head : Option Head) → follows_in_change last head ≡ true → is_end head ≡ false
+    → head ≡ Some O
+row_head None None e f = absurd (cc e)
+row_head None (Some O) e f = refl
+row_head None (Some End) e f = absurd (cc f)
+row_head None (Some _) e f = absurd (cc e)
+row_head (Some O) None e f = absurd (cc e)
+row_head (Some O) (Some O) e f = refl
+row_head (Some O) (Some End) e f = absurd (cc f)
+row_head (Some O) (Some _) e f = absurd (cc e)
+row_head (Some _) head e f = absurd (cc e)
+
+earlier_more : (names : List ℕ) (name : ℕ) (change : List ChangeRow) (row : ChangeRow)
+    → length names ≡ length change → AreEarlier names change
+    → ((q : ℕ) → is_member row.signal.members q ≡ true → is_member names q ≡ true)
+    → AreEarlier (names ++ name ∷ []) (change ++ row ∷ [])
+earlier_more names name change row len earlier last i r get q is =
     elim (more_get change row i r get) [
       | inl before ↦
           let lt = slice_get_within change i r before in
-          rw (split, take-append-le i qubits (row.qubit ∷ []) (omega arith))
-          (earlier i r before q is)
+          rw (take-append-le i names (name ∷ []) (omega arith)) (earlier i r before q is)
       | inr here ↦
-          let place : i ≡ length qubits = here.0 ∙ sym len in
-          rw (split, place, take-append_seam qubits (row.qubit ∷ [])) (last q (rw here.1 is))
+          let place : i ≡ length names = here.0 ∙ sym len in
+          rw (place, take-append_seam names (name ∷ [])) (last q (rw here.1 is))
     ]
 
-pub kept_more : (change change' : List ChangeRow) (done done' : List ℕ) (rows : List Row)
-    (row : Row) → change' ≡ change ++ change_row row ∷ []
-    → ((q : ℕ) → is_member done' q ≡ (is_member done q || nat_eq q row.name)) → IsRising row.set
-    → ((q : ℕ) → is_member row.set q ≡ true → is_member (names_of rows) q ≡ true)
-    → IsChangeSoFar change done rows → IsChangeSoFar change' done' (rows ++ row ∷ [])
-kept_more change change' done done' rows row more joined rising listed h =
-    let qubits : qubits_of change ≡ names_of rows = ap qubits_of h.change_is ∙ qubits_are rows in
+pub kept_more : (second : Bool) (order : List ℕ) (change change' : List ChangeRow)
+    (rows : List Row) (row : Row) → change' ≡ change ++ change_row row ∷ [] → IsRising row.set
+    → Passes (change_kind second order) rows row → IsChangeSoFar order change rows
+    → IsChangeSoFar order change' (rows ++ row ∷ [])
+kept_more second order change change' rows row more rising passes h =
+    let head = row_head passes.follows.0 row.head passes.follows.1 passes.goes in
+    let named = passes.named (rw head refl) in
+    let this = is_this (slice_get order (length rows)) row.name in
+    let due = this_one (slice_get order (length rows)) row.name
+    (not_false this (unbroken (not this) OtherRow [] named).0) in
+    let names : names_of (rows ++ row ∷ []) ≡ names_of rows ++ row.name ∷ [] =
+    map-append (λ (r : Row). r.name) rows (row ∷ []) in
+    let count = length-append rows (row ∷ []) in
+    let next : length (rows ++ row ∷ []) ≡ suc (length rows) = omega (arith, count) in
+    let len : length (names_of rows) ≡ length change =
+    length-map rows (λ (r : Row). r.name)
+    ∙ sym (ap length h.change_is ∙ length-map rows change_row) in
     record {
       change_is = rw (more, h.change_is) (sym (map-append change_row rows (row ∷ [])));
-      done_is = λ q. rw (
-        joined q,
-        h.done_is q,
-        map-append (λ (r : Row). r.name) rows (row ∷ []),
-        list_any-append (nat_eq q) (names_of rows) (row.name ∷ []),
-      ) (one_more (is_member (names_of rows) q) (nat_eq q row.name));
-      earlier = rw more
-          (earlier_more change (change_row row) h.earlier (λ q is. rw qubits (listed q is)));
+      due = rw (names, next, h.due) (sym (taken_more order (length rows) row.name due));
+      earlier = rw (more, names)
+          (earlier_more (names_of rows) row.name change (change_row row) len h.earlier
+          (λ q is.
+          let listed = is_member (names_of rows) q in
+          not_false listed (unbroken (not listed) NotMeasured [] (passes.listed q is)).0));
       sets = rw more
           (All-push (λ (r : ChangeRow). IsRising r.signal.members) change (change_row row) h.sets
           rising);
     }
-  where
-    one_more : (a b : Bool) → (a || b) ≡ (a || (b || false))
-    one_more a b = grind arith

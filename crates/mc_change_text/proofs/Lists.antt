@@ -1,26 +1,10 @@
 -- Lists with one more, and members of lists of numbers.
-use Rattle.std.proofs.Common.{◌≡◌, ℕ, zero, suc, Bool, true, false, not, All}
-use Rattle.std.proofs.Common.{List, [], ◌∷◌, ◌++◌, length, take, refl, ap, eq-eqb, nat_eq}
-use Rattle.std.proofs.Common.{Some, None, slice_get, inl, inr, ◌⊎◌, subst}
-use Rattle.std.specs.List.{AllByRecursion}
-use Rattle.std.proofs.lemmas.Bool.{or_right, or_cases, eqb-true}
+use Rattle.std.proofs.Common.{◌≡◌, ℕ, zero, suc, true, All, List, [], ◌∷◌, ◌++◌, length, take, refl}
+use Rattle.std.proofs.Common.{ap, nat_eq, Some, slice_get, inl, inr, ◌⊎◌, subst}
+use Rattle.std.proofs.lemmas.Bool.{or_cases, eqb-true}
 use Rattle.std.proofs.lemmas.Option.{slice_get_within, get_or_from_slice_get}
-use Rattle.std.proofs.lemmas.List.Elements.{All-from_recursion, All-head, All-tail}
+use Rattle.std.proofs.lemmas.List.Elements.{All-head, All-tail}
 use Rattle.mc_model.specs.Numbers.{is_member}
-use Rattle.mc_text.specs.declared.fault.Fault.{Fault}
-use Rattle.mc_text.specs.Rules.{broken}
-
--- a rule that is not broken holds
-pub holds_by : (t : Bool) (rule : Fault) → broken ((not t, rule) ∷ []) ≡ None → t ≡ true
-holds_by true rule e = refl
-holds_by false rule e = absurd (cc e)
-
--- the front of a list with one more
-pub taken_more : {A : Type 0} (xs : List A) (i : ℕ) (x : A) → slice_get xs i ≡ Some x
-    → take (suc i) xs ≡ take i xs ++ x ∷ []
-taken_more [] i x e = absurd (cc e)
-taken_more (y ∷ ys) zero x e = let same : y ≡ x = cc e in ap (λ (z : _). z ∷ []) same
-taken_more (y ∷ ys) (suc i) x e = ap (λ (zs : List _). y ∷ zs) (taken_more ys i x e)
 
 -- what stands at a place of a list with one more
 pub more_get : {A : Type 0} (xs : List A) (x : A) (i : ℕ) (y : A)
@@ -39,19 +23,6 @@ pub get_behind : {A : Type 0} (xs : List A) (x : A) (ys : List A)
     → slice_get (xs ++ x ∷ ys) (length xs) ≡ Some x
 get_behind [] x ys = refl
 get_behind (y ∷ xs) x ys = get_behind xs x ys
-
--- what holds of each member holds of all
-each_member : (P : ℕ → Type 0) (qs : List ℕ) → ((q : ℕ) → is_member qs q ≡ true → P q)
-    → AllByRecursion P qs
-each_member P [] holds = tt
-each_member P (q ∷ qs) holds = (
-  holds q (rw (eq-eqb q q refl) refl),
-  each_member P qs (λ r is. holds r (or_right (nat_eq r q) (is_member qs r) is)),
-)
-
-pub all_members : (P : ℕ → Type 0) (qs : List ℕ) → ((q : ℕ) → is_member qs q ≡ true → P q)
-    → All P qs
-all_members P qs holds = All-from_recursion P qs (each_member P qs holds)
 
 -- what holds of all holds of what stands at a place
 pub at_place : {A : Type 0} (P : A → Type 0) (xs : List A) (i : ℕ) (x : A) → All P xs

@@ -25,7 +25,8 @@ use Rattle.mc_change_text.specs.Changes.{AreRowsNamed, AreSets, has_constant, ch
 use Rattle.mc_change_text.specs.Kinds.{follows_in_change, change_kind, change_row, names_of}
 use Rattle.mc_change_text.specs.Kinds.{rows_of}
 use Rattle.mc_change_text.specs.Canonical.{written_row, change_header, change_text}
-use Rattle.mc_change_text.proofs.Lists.{all_members, at_front, at_place, get_behind}
+use Rattle.mc_rows.proofs.Within.{all_members}
+use Rattle.mc_change_text.proofs.Lists.{at_front, at_place, get_behind}
 use Rattle.mc_change_text.proofs.Measured.{measured_named}
 
 -- rows that are left, behind others, of a change of these measured qubits

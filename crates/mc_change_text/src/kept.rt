@@ -1,6 +1,6 @@
 //! The rows of a change, as they are read.
 
-ghost use Rattle.std.specs.Prelude.{◌≡◌, ℕ, [], OnOk, IfErr, nat_eq, ◌||◌};
+ghost use Rattle.std.specs.Prelude.{◌≡◌, [], take};
 ghost use Rattle.mc_model.specs.Numbers.{is_member};
 ghost use Rattle.mc_change_text.specs.Kinds.{change_kind, change_shape, follows_in_change};
 ghost use Rattle.mc_change_text.specs.Kept.{IsChangeSoFar};
@@ -12,13 +12,12 @@ use mc_text::{Fault, Head, Stop};
 use std::alloc::Global;
 
 /// What is kept of the rows of a change behind a pattern: whether `!` may stand in them, the measured qubits of the pattern in
-/// order, the change, and the qubits of its rows.
+/// order, and the change.
 #[derive(Drop)]
 pub(crate) struct KeptChange {
     second: bool,
     order: Vec<u16>,
     pub(crate) change: Change,
-    done: QSet,
 }
 
 impl KeptChange {
@@ -26,13 +25,12 @@ impl KeptChange {
     pub(crate) fn new(alloc: Global, second: bool, order: Vec<u16>) -> KeptChange
         ensures second { result.second ≡ second }
         ensures order { result.order.items ≡ order.items }
-        ensures begins { IsChangeSoFar result.change result.done [] }
+        ensures begins { IsChangeSoFar result.order.items result.change [] }
     {
         KeptChange {
             second,
             order,
             change: Change::new(alloc),
-            done: QSet::new(alloc),
         }
     }
 }
@@ -66,23 +64,21 @@ fn signal_of(members: QSet, constant: bool) -> Signal
     signal
 }
 
-/// Puts a qubit into a set.
-fn join(set: &mut QSet, q: u16) -> Result<(), Stop>
-    ensures joined { OnOk result ((p : ℕ) →
-        is_member set.new p ≡ (is_member set.old p || nat_eq p q)) }
-    ensures err { IfErr result (λ stop. stop ≡ Stop.Memory) }
+/// The first of a list, so many of them as there are.
+fn first_of(numbers: &[u16], count: usize) -> &[u16]
+    ensures { result.now ≡ take count numbers.now }
 {
-    // no qubit has a number above 255
-    if q >= 256 {
-        return Err(Stop::Memory);
+    if count < numbers.len() {
+        return numbers.split_at(count).0;
     }
-    if set.has(q) {
-        return Ok(());
-    }
-    match set.toggle(q) {
-        Ok(()) => Ok(()),
-        Err(_) => Err(Stop::Memory),
-    }
+    numbers
+}
+
+/// Whether a number is among the first of a list.
+fn is_among(numbers: &[u16], count: usize, q: u16) -> bool
+    ensures { result ≡ is_member (take count numbers.now) q }
+{
+    first_of(numbers, count).iter().any(|other| q == *other)
 }
 
 impl Rows for KeptChange {
@@ -91,7 +87,7 @@ impl Rows for KeptChange {
 
     ghost kind = { λ k. change_kind k.second k.order.items };
 
-    ghost holds = { λ k rows. IsChangeSoFar k.change k.done rows };
+    ghost holds = { λ k rows. IsChangeSoFar k.order.items k.change rows };
 
     fn follows(&self, last: Option<Head>, head: Option<Head>) -> bool {
         follows(last, head)
@@ -125,7 +121,8 @@ impl Rows for KeptChange {
     }
 
     fn bar_listed(&self, q: u16) -> Result<(), Stop> {
-        if !self.done.has(q) {
+        // the rows so far are those of the first measured qubits
+        if !is_among(self.order.as_slice(), self.change.len(), q) {
             return Err(Stop::Fault(Fault::NotMeasured));
         }
         Ok(())
@@ -134,9 +131,6 @@ impl Rows for KeptChange {
     fn push(&mut self, row: Row) -> Result<(), Stop> {
         // the proof needs that the members are in order
         let _members = row.set.len();
-        if let Err(stop) = join(&mut self.done, row.name) {
-            return Err(stop);
-        }
         match self.change.push(row.name, signal_of(row.set, row.constant)) {
             Ok(()) => Ok(()),
             Err(_) => Err(Stop::Memory),

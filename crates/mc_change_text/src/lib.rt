@@ -1,13 +1,13 @@
 //! The texts of changes of outcomes, which stand behind a pattern.
 //!
-//! A line `o NAME NAMES` says the qubit and the members of the signal of a row; in version 2 the word `!` may stand among the
-//! members, for the constant. `kept` has the kind of the section and what is kept of the rows that are read, `order` the
-//! measured qubits of a pattern, `read` how a section is read, `print` the canonical text, and `laws` what is proved of texts.
+//! A line `o NAME NAMES` says the qubit and the members of the signal of a row; in version 2 the
+//! word `!` may stand among the members, for the constant. `kept` has the kind of the section and
+//! what is kept of the rows that are read, `read` how a section is read, `print` the canonical
+//! text, and `laws` what is proved of texts.
 #![tactic(auto)]
 
 mod kept;
 mod laws;
-mod order;
 mod print;
 mod read;
 #[cfg(test)]

@@ -9,7 +9,6 @@ ghost use Rattle.mc_change_text.specs.Changes.{AreSets};
 ghost use Rattle.mc_change_text.specs.Kinds.{change_rules, rows_of};
 
 use crate::kept::KeptChange;
-use crate::order::measured;
 use mc_lex::{TextEnd, Words};
 use mc_pattern::{Change, Pattern};
 use mc_rows::RowReader;
@@ -38,7 +37,7 @@ pub fn read_change<const H: usize>(
         (first_in_section (change_rules version pattern.now) [] words.old.later words.old.last)) }
     ensures no_limit { (which found : ℕ) → result ≡ Err (TextEnd.Limit which found) → ⊥ }
 {
-    let Ok(order) = measured(alloc, pattern.commands()) else {
+    let Ok(order) = pattern.measured_qubits(alloc) else {
         return Err(TextEnd::Memory);
     };
     let kind = KeptChange::new(alloc, version == 2, order);

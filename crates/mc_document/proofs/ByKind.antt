@@ -43,7 +43,7 @@ use Rattle.mc_document.proofs.GateDocuments.{AreGatesRead, gates_clean, gates_se
 use Rattle.mc_document.proofs.GraphDocuments.{IsAnyCertRead, IsCertRead, IsGraphRead, has_cert}
 use Rattle.mc_document.proofs.GraphDocuments.{graph_certified, graph_clean, graph_spelled}
 use Rattle.mc_document.proofs.GraphDocuments.{graph_stepped}
-use Rattle.mc_document.proofs.Headers.{permitted_half}
+use Rattle.mc_text.proofs.HeadersBack.{permitted_half}
 use Rattle.mc_document.proofs.Joined.{first_of_both}
 use Rattle.mc_document.proofs.PatternDocuments.{IsChangeRead, IsPatternRead, IsTraceRead}
 use Rattle.mc_document.proofs.PatternDocuments.{alone_back, change_stands, changed_back}

@@ -28,7 +28,8 @@ use Rattle.mc_document.specs.Turns.{half_of}
 use Rattle.mc_document.proofs.BothTexts.{IsBoth, IsReadAs, both_first, both_lines, both_read}
 use Rattle.mc_document.proofs.BothTexts.{both_spelled, both_stepped, second_said, second_stands}
 use Rattle.mc_document.proofs.CleanTexts.{second_spells, some_is}
-use Rattle.mc_document.proofs.Headers.{HasHeader, header_of, known_version, plain_permits}
+use Rattle.mc_text.proofs.HeadersBack.{known_version}
+use Rattle.mc_document.proofs.Headers.{HasHeader, header_of, plain_permits}
 use Rattle.mc_document.proofs.Joined.{IsEnded, first_of_both, text_ended}
 use Rattle.mc_document.proofs.Opening.{both_sections, certifies}
 use Rattle.mc_document.proofs.SoundCerts.{clean_is_cert}

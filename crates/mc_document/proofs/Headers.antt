@@ -2,16 +2,11 @@
 -- its kind may, and where its form permits what it says.
 use Rattle.std.proofs.Common.{◌≡◌, ℕ, ◌+◌, true, false, List, [], ◌∷◌, ◌++◌, drop, Some}
 use Rattle.std.proofs.Common.{None, Option, length, refl, sym, ap, ◌∙◌, inl, inr}
-use Rattle.std.proofs.Common.{Bool, IsTrue, if◌then◌else◌}
 use Rattle.std.specs.List.{list_all}
-use Rattle.std.proofs.lemmas.Bool.{eqb-true}
-use Rattle.std.proofs.lemmas.Bool.Decides.{eqb_tells}
 use Rattle.std.proofs.lemmas.List.{append-nil}
 use Rattle.mc_lex.specs.declared.kind.Kind.{Kind}
-use Rattle.mc_lex.specs.declared.kind.Kind.TheVariants.{Circuit}
 use Rattle.mc_lex.specs.Kinds.{kind_of, spelling}
 use Rattle.mc_lex.specs.Lines.{word, Line, line_of, lines_from, lines_of}
-use Rattle.mc_model.specs.Steps.{is_permitted}
 use Rattle.mc_write.specs.Text.{line_text, text_of}
 use Rattle.mc_text.specs.declared.fault.Fault.{Fault}
 use Rattle.mc_text.specs.declared.form.Form.{Form}
@@ -20,8 +15,9 @@ use Rattle.mc_text.specs.Headers.{first_in_header, header_rules, header_words, i
 use Rattle.mc_text.specs.Headers.{may_say, turn_words, version_in, version_word, IsHalf, IsVersion}
 use Rattle.mc_text.specs.Headers.{half_in}
 use Rattle.mc_text.proofs.Clean.{CleanWords}
+use Rattle.mc_text.proofs.HeadersWritten.{header_written}
 use Rattle.mc_text.proofs.HeadersBack.{half_back, kind_spelled, version_back}
-use Rattle.mc_text.proofs.Written.{is_written, is_written_line, items_behind, lines_of-text}
+use Rattle.mc_text.proofs.Written.{is_written_line, items_behind, lines_of-text}
 use Rattle.mc_text.proofs.Written.{placed_items, placed_lines}
 use Rattle.mc_document.proofs.Joined.{joined, line_ended}
 
@@ -87,31 +83,10 @@ abbrev pub HasHeader : Kind → ℕ → ℕ → List ℕ → Type 0
 HasHeader kind version half text =
     HasFirst (header_words kind version half) text × IsVersion version × IsHalf half
 
-pub permitted_half : (half : ℕ) → IsTrue (is_permitted half) → IsHalf half
-permitted_half half p = elim (eqb_tells half 4) [
-  | inl e ↦ inl e.1
-  | inr e ↦ inr (eqb-true half 8 (rw e.0 at p))
-]
-
-pub known_version : (fixed : Bool) → IsVersion (if fixed then 2 else 1)
-known_version true = inr refl
-known_version false = inl refl
-
-kind_written : (kind : Kind) → is_written (spelling kind) ≡ true
-kind_written Circuit = refl
-kind_written _ = refl
-
-header_written : (kind : Kind) (version half : ℕ) → IsVersion version → IsHalf half →
-    is_written_line (header_words kind version half) ≡ true
-header_written kind version half (inl v) (inl h) = rw (v, h, kind_written kind) refl
-header_written kind version half (inl v) (inr h) = rw (v, h, kind_written kind) refl
-header_written kind version half (inr v) (inl h) = rw (v, h, kind_written kind) refl
-header_written kind version half (inr v) (inr h) = rw (v, h, kind_written kind) refl
-
 pub header_of : (kind : Kind) (version half : ℕ) (lines : Lines) → IsVersion version →
     IsHalf half → HasHeader kind version half (text_of (header_words kind version half ∷ lines))
 header_of kind version half lines v h =
-    (first_line (header_words kind version half) lines (header_written kind version half v h), v, h)
+    (first_line (header_words kind version half) lines (header_written kind version half), v, h)
 
 pub named : (kind : Kind) (version half : ℕ) (text : List ℕ) (h : HasHeader kind version half text) →
     kind_in (words_of h.0.line.items) ≡ Some kind

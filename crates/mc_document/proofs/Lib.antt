@@ -12,7 +12,5 @@ pub mod Opening
 pub mod Seconds
 pub mod Taken
 pub mod Turns
-pub mod RowLines
-pub mod SoundChanges
 pub mod SoundCerts
 pub mod SoundTraces

@@ -34,10 +34,11 @@ use Rattle.mc_document.specs.Turns.{half_of}
 use Rattle.mc_document.proofs.BothTexts.{IsBoth, IsReadAs, both_first, both_lines, both_read}
 use Rattle.mc_document.proofs.BothTexts.{both_spelled, both_stepped, second_said, second_stands}
 use Rattle.mc_document.proofs.CleanTexts.{none_due, second_spells, some_holds}
-use Rattle.mc_document.proofs.Headers.{HasHeader, header_of, known_version, plain_permits}
+use Rattle.mc_text.proofs.HeadersBack.{known_version}
+use Rattle.mc_document.proofs.Headers.{HasHeader, header_of, plain_permits}
 use Rattle.mc_document.proofs.Joined.{IsEnded, first_of_both, text_ended}
 use Rattle.mc_document.proofs.Opening.{both_sections}
-use Rattle.mc_document.proofs.SoundChanges.{clean_is_change}
+use Rattle.mc_change_text.proofs.Fits.{clean_is_change}
 use Rattle.mc_document.proofs.SoundTraces.{clean_can_be_written}
 
 -- ---- a text without a fault spells one that is taken

@@ -35,7 +35,7 @@ use Rattle.mc_cert_text.specs.Value.{layer_line, bound_line, bound_lines_in, lea
 use Rattle.mc_cert_text.specs.Kinds.{IsCertKind, cert_in, cert_rules, flow_kind}
 use Rattle.mc_cert_text.specs.Kinds.{refuter_kind, least_kind}
 use Rattle.mc_cert_text.proofs.Fits.{cert_fits}
-use Rattle.mc_document.proofs.RowLines.{rows_hold}
+use Rattle.mc_rows.proofs.Holding.{rows_hold}
 
 was_free : (t : Bool) → broken ((t, RowTwice) ∷ []) ≡ None → t ≡ false
 was_free false e = refl

@@ -19,7 +19,7 @@ use Rattle.mc_trace_text.specs.Traces.{CanBeWritten, is_rule, is_use, judge_by, 
 use Rattle.mc_trace_text.specs.Traces.{trace_rules, uses_in}
 use Rattle.mc_trace_text.specs.Kept.{IsKept}
 use Rattle.mc_trace_text.proofs.Keeping.{word_kept, line_kept}
-use Rattle.mc_graph_text.proofs.CleanSections.{GoesOn, behind_clean}
+use Rattle.mc_text.proofs.GoesOn.{GoesOn, behind_clean}
 
 -- a number of at most four digits
 both : (a b : Bool) → (a && b) ≡ true → (a ≡ true) × (b ≡ true)

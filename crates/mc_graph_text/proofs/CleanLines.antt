@@ -2,12 +2,11 @@
 use Rattle.std.proofs.Common.{◌≡◌, ℕ, zero, suc, ◌+◌, ◌<◌, ◌≤◌, List, [], ◌∷◌, ◌++◌, Bool, true}
 use Rattle.std.proofs.Common.{false}
 use Rattle.std.proofs.Common.{◌&&◌, Option, Some, None, length, map, codes, refl, ap, ◌∙◌}
-use Rattle.std.proofs.Common.{append_assoc, length-append, arith, ne_eqb, nat_le, cond}
+use Rattle.std.proofs.Common.{append_assoc, arith, ne_eqb, cond}
 use Rattle.std.specs.Prelude.{nat_lt, is_some, unwrap_or, All}
 use Rattle.std.specs.Fmt.{decimal}
 use Rattle.std.specs.List.{flat_map, list_all, IsDistinct}
-use Rattle.std.proofs.lemmas.Bool.{le-ltb}
-use Rattle.std.proofs.lemmas.Bool.Decides.{nat_tests}
+use Rattle.std.proofs.lemmas.Bool.{and_parts, le-ltb}
 use Rattle.std.proofs.lemmas.List.{append-nil, map-append}
 use Rattle.std.proofs.lemmas.List.Elements.{All-weaker}
 use Rattle.mc_model.specs.Names.{Name, AreNames, name_eq, is_name, is_held}
@@ -20,11 +19,11 @@ use Rattle.mc_text.specs.declared.head.Head.{Head}
 use Rattle.mc_text.specs.Heads.{head_of}
 use Rattle.mc_text.specs.Points.{point_of}
 use Rattle.mc_text.specs.Judged.{Words, Lines}
-use Rattle.mc_text.specs.Rules.{new_name, known_name}
+use Rattle.mc_text.specs.Rules.{known_name}
 use Rattle.mc_text.proofs.Going.{head_at}
 use Rattle.mc_text.proofs.Kept.{count_some}
 use Rattle.mc_text.proofs.Clean.{CleanWords}
-use Rattle.mc_text.proofs.Naming.{distinct_front}
+use Rattle.mc_text.proofs.Members.{first_new}
 use Rattle.mc_graph.specs.Graphs.{IsGraph}
 use Rattle.mc_graph.proofs.ListedNumbers.{numbers_where-below, member-where}
 use Rattle.mc_graph_text.specs.Roles.{role_of, role_in, input, vertex, end, other_end, measured}
@@ -57,19 +56,6 @@ no_pair test h (a ∷ b ∷ ws) e = rw e refl
 
 -- ---- inputs
 
-and_both : (a b : Bool) → (a && b) ≡ true → (a ≡ true) × (b ≡ true)
-and_both true b e = (refl, e)
-and_both false b e = absurd (cc e)
-
--- the first of names behind others is new
-free_name : (done : List Name) (w : Name) (ws : List Name) → is_name w ≡ true →
-    IsDistinct name_eq (done ++ w ∷ ws) → length (done ++ w ∷ ws) ≤ 256 → new_name done w ≡ None
-free_name done w ws named distinct few =
-    let free = distinct_front done w ws distinct in
-    let long = length-append done (w ∷ ws) in
-    let room : nat_le 256 (length done) ≡ false = grind (arith, nat_tests) in
-    rw (named, free, room) refl
-
 pub spelled_inputs : (done : List Name) →
     spelled_at [] (codes "in" ∷ done) ≡ some_of done done [] [] [] [] []
 spelled_inputs done =
@@ -82,11 +68,11 @@ inputs_clean version done [] names distinct few =
     lacking version [] (codes "in" ∷ done) (some_of done done [] [] [] [] []) input
     (spelled_inputs done) (role_at [] (codes "in") done) refl
 inputs_clean version done (w ∷ ws) names distinct few =
-    let named = and_both (is_name w) (list_all is_name ws) names in
+    let named = and_parts (is_name w) (list_all is_name ws) names in
     let next : (done ++ w ∷ []) ++ ws ≡ done ++ (w ∷ ws) = append_assoc done (w ∷ []) ws in (
       judged version [] (codes "in" ∷ done) (some_of done done [] [] [] [] []) input w
           (spelled_inputs done) (role_at [] (codes "in") done)
-          (free_name done w ws named.0 distinct few),
+          (first_new done w ws named.0 distinct few),
       inputs_clean version (done ++ w ∷ []) ws named.1 (rw next distinct) (rw next few),
     )
 
@@ -117,14 +103,14 @@ pub vertices_clean : (version : ℕ) (before : Lines) (done ins ns : List Name) 
 vertices_clean version before done ins [] tail whole is names distinct few rest =
     rest before (rw (append-nil done) is)
 vertices_clean version before done ins (n ∷ ns) tail whole is names distinct few rest =
-    let named = and_both (is_name n) (list_all is_name ns) names in
+    let named = and_parts (is_name n) (list_all is_name ns) names in
     let s = some_of done ins [] [] [] [] [] in
     let next : (done ++ n ∷ []) ++ ns ≡ done ++ (n ∷ ns) = append_assoc done (n ∷ []) ns in
     reads_more version before (vertex_line n) (map vertex_line ns ++ tail) whole (
       begins_inner version before s (codes "n") is refl,
       (
         judged version before (codes "n" ∷ []) s vertex n is.spelled refl
-            (free_name done n ns named.0 distinct few),
+            (first_new done n ns named.0 distinct few),
         refl,
       ),
     )

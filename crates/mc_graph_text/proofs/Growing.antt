@@ -23,7 +23,9 @@ use Rattle.mc_graph.specs.Building.{with_vertex, with_edge, with_angle}
 use Rattle.mc_graph.proofs.PairLists.{pairs_below-same, pairs_below-more}
 use Rattle.mc_graph_text.specs.Value.{Pair, is_edge, has_edge, angle_by, fixed_by}
 use Rattle.mc_graph_text.specs.Kept.{with_x, with_z}
-use Rattle.mc_graph_text.proofs.NameReads.{name_at-place, place-name_at, place-below, name_eq-same}
+use Rattle.mc_text.proofs.Members.{place-below, name_eq-same}
+use Rattle.mc_text.proofs.Naming.{place-name_at}
+use Rattle.mc_graph_text.proofs.NameReads.{name_at-place}
 use Rattle.mc_graph_text.proofs.NameReads.{mapped_at, has_edge-turned}
 
 -- the graph so far by its parts

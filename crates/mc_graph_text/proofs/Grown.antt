@@ -6,10 +6,12 @@ use Rattle.std.specs.Cmp.Lexicographic.{nat_list_eq_equiv}
 use Rattle.std.proofs.lemmas.List.{map-append}
 use Rattle.std.proofs.lemmas.List.Folds.{list_all-append}
 use Rattle.std.proofs.lemmas.Map.Keys.{IsDistinct-push}
-use Rattle.mc_model.specs.Names.{Name, is_name, is_held}
+use Rattle.mc_model.specs.Names.{Name, is_held}
 use Rattle.mc_model.specs.Graph.{OpenGraph}
-use Rattle.mc_text.specs.Rules.{number_in, new_name}
+use Rattle.mc_text.specs.Rules.{number_in, broken, known_name, new_name}
 use Rattle.mc_text.proofs.Kept.{numbers-more}
+use Rattle.mc_text.specs.declared.fault.Fault.TheVariants.{ListedTwice, Measured}
+use Rattle.mc_text.proofs.Unbroken.{known_is, new_is, next_none, unbroken}
 use Rattle.mc_graph_text.specs.Value.{Pair, Spelled}
 use Rattle.mc_graph_text.specs.Judge.{angled, still_name, other_name, output_name}
 use Rattle.mc_graph_text.specs.Judge.{fixed_name}
@@ -23,21 +25,12 @@ pub record IsGrown (half : ℕ) (s : Spelled) (g : OpenGraph) : Type 0 where
 -- words with nothing against them
 pub new_free : (names : List Name) (word : Name) → new_name names word ≡ None
     → is_held names word ≡ false
-new_free names word clean = by_tests (is_name word) (is_held names word) refl refl
-  where
-    by_tests : (n h : Bool) → is_name word ≡ n → is_held names word ≡ h → h ≡ false
-    by_tests false h e f = let clean' = rw e at clean in absurd (cc clean')
-    by_tests true true e f = let clean' = rw (e, f) at clean in absurd (cc clean')
-    by_tests true false e f = refl
+new_free names word clean = (new_is names word clean).free
 
 pub other_held : (s : Spelled) (a word : Name) → other_name s (Some a) word ≡ None
     → is_held s.names word ≡ true
-other_held s a word clean = by_tests (is_name word) (is_held s.names word) refl refl
-  where
-    by_tests : (n h : Bool) → is_name word ≡ n → is_held s.names word ≡ h → h ≡ true
-    by_tests false h e f = let clean' = rw e at clean in absurd (cc clean')
-    by_tests true false e f = let clean' = rw (e, f) at clean in absurd (cc clean')
-    by_tests true true e f = refl
+other_held s a word clean =
+    (known_is s.names word (next_none (known_name s.names word) _ clean).0).1
 
 -- a vertex without an angle
 pub record IsStill (s : Spelled) (word : Name) : Type 0 where
@@ -46,42 +39,23 @@ pub record IsStill (s : Spelled) (word : Name) : Type 0 where
 
 pub still_is : (s : Spelled) (word : Name) → still_name s word ≡ None → IsStill s word
 still_is s word clean =
-    by_tests (is_name word) (is_held s.names word) (is_held (angled s) word) refl refl refl
-  where
-    by_tests : (n h a : Bool) → is_name word ≡ n → is_held s.names word ≡ h
-        → is_held (angled s) word ≡ a → IsStill s word
-    by_tests false h a e f l = let clean' = rw e at clean in absurd (cc clean')
-    by_tests true false a e f l = let clean' = rw (e, f) at clean in absurd (cc clean')
-    by_tests true true true e f l = let clean' = rw (e, f, l) at clean in absurd (cc clean')
-    by_tests true true false e f l = record { held = f; free = l }
+    let measured = (is_held (angled s) word, Measured) ∷ [] in
+    let both = next_none (known_name s.names word) (broken measured) clean in
+    record {
+      held = (known_is s.names word both.0).1;
+      free = (unbroken (is_held (angled s) word) Measured [] both.1).0;
+    }
 
 pub output_is : (s : Spelled) (word : Name) → output_name s word ≡ None
     → IsStill s word × (is_held s.outputs word ≡ false)
 output_is s word clean =
-    by_tests (is_name word) (is_held s.names word) (is_held (angled s) word)
-    (is_held s.outputs word) refl refl refl refl
-  where
-    by_tests : (n h a l : Bool) → is_name word ≡ n → is_held s.names word ≡ h
-        → is_held (angled s) word ≡ a → is_held s.outputs word ≡ l
-        → IsStill s word × (is_held s.outputs word ≡ false)
-    by_tests false h a l e f i j = let clean' = rw e at clean in absurd (cc clean')
-    by_tests true false a l e f i j = let clean' = rw (e, f) at clean in absurd (cc clean')
-    by_tests true true true l e f i j = let clean' = rw (e, f, i) at clean in absurd (cc clean')
-    by_tests true true false true e f i j =
-        let clean' = rw (e, f, i, j) at clean in absurd (cc clean')
-    by_tests true true false false e f i j = (record { held = f; free = i }, j)
+    let listed = (is_held s.outputs word, ListedTwice) ∷ [] in
+    let both = next_none (still_name s word) (broken listed) clean in
+    (still_is s word both.0, (unbroken (is_held s.outputs word) ListedTwice [] both.1).0)
 
 pub fixed_is : (s : Spelled) (list : List Name) (word : Name) → fixed_name s list word ≡ None
     → IsStill s word
-fixed_is s list word clean =
-    by_tests (is_name word) (is_held s.names word) (is_held (angled s) word) refl refl refl
-  where
-    by_tests : (n h a : Bool) → is_name word ≡ n → is_held s.names word ≡ h
-        → is_held (angled s) word ≡ a → IsStill s word
-    by_tests false h a e f l = let clean' = rw e at clean in absurd (cc clean')
-    by_tests true false a e f l = let clean' = rw (e, f) at clean in absurd (cc clean')
-    by_tests true true true e f l = let clean' = rw (e, f, l) at clean in absurd (cc clean')
-    by_tests true true false e f l = record { held = f; free = l }
+fixed_is s list word clean = still_is s word (next_none (still_name s word) _ clean).0
 
 -- lists with one more name, and under more names
 pub all_more : (p : Name → Bool) (list : List Name) (word : Name) → list_all p list ≡ true

@@ -1,22 +1,13 @@
 -- Which lines may stand behind which.
-use Rattle.std.proofs.Common.{◌≡◌, [], ◌∷◌, ◌++◌, Bool, true, false, Option, Some, None, refl}
+use Rattle.std.proofs.Common.{◌≡◌, Bool, true, false, Option, Some, None, refl}
 use Rattle.std.proofs.Common.{◌⊎◌, inl, inr}
 use Rattle.std.proofs.lemmas.Bool.{cases_Bool}
-use Rattle.std.proofs.lemmas.List.Sums.{fold-append}
 use Rattle.mc_text.specs.declared.head.Head.{Head}
 use Rattle.mc_text.specs.declared.head.Head.TheVariants.{In, N, E, M, X, Z, Out, End}
-use Rattle.mc_text.specs.Heads.{head_in}
-use Rattle.mc_text.specs.Points.{last_head}
-use Rattle.mc_text.specs.Judged.{Words, Lines}
 use Rattle.mc_graph_text.specs.Roles.{is_input, is_inner, is_late, may_follow, is_defining}
 use Rattle.mc_graph_text.specs.Roles.{is_output}
 use Rattle.mc_graph_text.specs.Roles.{is_measuring, is_joining, is_fixing_x, is_fixing_z}
 use Rattle.mc_graph_text.specs.Kept.{is_closed, is_keeping}
-
-pub last_head-more : (before : Lines) (here : Words)
-    → last_head (before ++ here ∷ []) ≡ head_in here
-last_head-more before here =
-    fold-append (λ (last : Option Head) (line : Words). head_in line) None before (here ∷ [])
 
 -- lines behind the outputs
 abbrev pub is_after : Option Head → Bool

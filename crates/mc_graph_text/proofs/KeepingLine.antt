@@ -8,6 +8,7 @@ use Rattle.mc_text.specs.Heads.{head_of}
 use Rattle.mc_text.specs.Points.{point_of, last_head}
 use Rattle.mc_text.specs.Judged.{Words, Lines}
 use Rattle.mc_text.specs.Rules.{AreNumbers}
+use Rattle.mc_text.proofs.Done.{last_head-more}
 use Rattle.mc_text.proofs.Going.{head_at}
 use Rattle.mc_text.proofs.Kept.{count_some, names_at-line}
 use Rattle.mc_graph_text.specs.declared.reader.Reader.{Reader}
@@ -18,9 +19,9 @@ use Rattle.mc_graph_text.specs.Judge.{is_settled, lacks_by}
 use Rattle.mc_graph_text.specs.Kept.{graph_so_far, IsSound, IsKept, IsUnlisted, is_closed}
 use Rattle.mc_graph_text.specs.Kept.{opens}
 use Rattle.mc_graph_text.proofs.Pairs.{spelled-line}
-use Rattle.mc_graph_text.proofs.Heads.{last_head-more, open_before, closed_before, closed_cases}
+use Rattle.mc_graph_text.proofs.Heads.{open_before, closed_before, closed_cases}
 use Rattle.mc_graph_text.proofs.Heads.{open_lists}
-use Rattle.mc_graph_text.proofs.KeepingWord.{names_stay}
+use Rattle.mc_text.proofs.NamesHere.{names_stay}
 
 pub unlisted_line : (fixes : Bool) (before : Lines) (w : List ℕ) (words : Words)
     → opens fixes (last_head before) (w ∷ words) ≡ true

@@ -13,6 +13,7 @@ use Rattle.mc_text.specs.Points.{point_of, last_head}
 use Rattle.mc_text.specs.Judged.{Words, Lines}
 use Rattle.mc_text.specs.Rules.{AreNumbers}
 use Rattle.mc_text.specs.Lists.{names_at, added}
+use Rattle.mc_text.proofs.NamesHere.{names_stay}
 use Rattle.mc_text.proofs.Going.{head_at}
 use Rattle.mc_text.proofs.Kept.{count_at, count_some, names_at-word, added_none, place-more}
 use Rattle.mc_text.proofs.Kept.{numbers-word, numbers-more}
@@ -77,11 +78,6 @@ pub same_lacks : (fixes : Bool) (before : Lines) (here : Words) (p : Point)
     → p ≡ point_of before here
     → lacks_by (spelled_at before here) (role_of p) ≡ (rules_with fixes).lacks before here
 same_lacks fixes before here p e = rw e refl
-
--- what is listed behind the record word of a line that lists nothing
-pub names_stay : (test : Option Head → Bool) (before : Lines) (h : List ℕ) (words : Words)
-    → test (head_of h) ≡ false → names_at test before (h ∷ words) ≡ names_at test before []
-names_stay test before h words e = rw e refl
 
 -- nothing is listed or fixed before an angle
 pub record NothingListed (s : Spelled) : Type 0 where

@@ -16,6 +16,5 @@ mod SpelledLines
 mod CleanLines
 mod CleanEnds
 mod ReadBack
-pub mod CleanSections
 pub mod Whole
 pub mod ValidGraphs

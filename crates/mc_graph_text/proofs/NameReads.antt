@@ -1,31 +1,24 @@
 -- What the graph so far says of a vertex is what the lines say of its name.
 use Rattle.std.proofs.Common.{◌≡◌, ◌≢◌, ℕ, zero, suc, ◌<◌, List, [], ◌∷◌, Bool, true, false, ◌||◌}
 use Rattle.std.proofs.Common.{◌&&◌, Some, None, length, map, refl, sym, ap, ap₂, ◌∙◌, arith}
-use Rattle.std.proofs.Common.{get_or, nat_eq}
+use Rattle.std.proofs.Common.{get_or}
 use Rattle.std.specs.Prelude.{slice_get, unwrap_or, is_some}
-use Rattle.std.specs.List.{list_any, list_all, IsDistinct}
-use Rattle.std.proofs.lemmas.Bool.Decides.{nat_tests, Decides-eqb}
+use Rattle.std.specs.List.{IsDistinct}
 use Rattle.std.proofs.lemmas.List.Quantifiers.{position-Some}
-use Rattle.std.proofs.lemmas.List.Sums.{AllPass-from_list_all, list_all-from_AllPass}
 use Rattle.std.proofs.lemmas.Option.{unwrap_or-slice_get}
-use Rattle.std.proofs.lemmas.Slice.Eq.{slice_eq-Decides}
 use Rattle.mc_model.specs.Names.{Name, name_eq, is_held, place_of}
 use Rattle.mc_model.specs.Numbers.{is_member}
 use Rattle.mc_model.specs.Graph.{joins, fixed_at, not_fixed}
 use Rattle.mc_model.proofs.PairLemmas.{joins-pairs}
 use Rattle.mc_names.specs.Stored.{name_eq-true}
-use Rattle.mc_text.specs.Rules.{number_in, AreNumbers}
+use Rattle.mc_text.specs.Rules.{AreNumbers}
 use Rattle.mc_text.proofs.Listed.{place_at}
-use Rattle.mc_text.proofs.Numbers.{listed-number}
+use Rattle.mc_text.proofs.Members.{numbered-name, place-below}
 use Rattle.mc_write.specs.Named.{name_at}
 use Rattle.mc_graph.specs.Rules.{has_angle}
 use Rattle.mc_graph_text.specs.Value.{Pair, Spelled, is_edge, has_edge, angle_by, fixed_by}
 use Rattle.mc_graph_text.specs.Judge.{angled, is_settled}
 use Rattle.mc_graph_text.specs.Kept.{graph_so_far}
-
-pub place-below : (names : List Name) (a : Name) (q : ℕ) → place_of names a ≡ Some q
-    → q < length names
-place-below names a q e = (position-Some (name_eq a) names q [] e).0
 
 -- the name at the number of a name
 pub name_at-place : (names : List Name) (a : Name) (q : ℕ) → place_of names a ≡ Some q
@@ -33,14 +26,6 @@ pub name_at-place : (names : List Name) (a : Name) (q : ℕ) → place_of names 
 name_at-place names a q e =
     let found = position-Some (name_eq a) names q [] e in
     unwrap_or-slice_get names q [] ∙ sym (name_eq-true a (get_or names q []) found.1)
-
-pub place-name_at : (names : List Name) (q : ℕ) → IsDistinct name_eq names → q < length names
-    → place_of names (name_at names q) ≡ Some q
-place-name_at names q distinct lt =
-    rw (unwrap_or-slice_get names q []) (place_at names q [] distinct lt)
-
-pub name_eq-same : (a b : Name) → a ≡ b → name_eq a b ≡ true
-name_eq-same a b e = (slice_eq-Decides Decides-eqb a b (name_eq a b) refl).1 e
 
 -- a list by the names reads at a number what it has of the name
 pub mapped_at : {B : Type 0} (f : Name → B) (names : List Name) (q : ℕ) (d : B) → q < length names
@@ -99,21 +84,6 @@ joined_at half s a b q r e f apart =
     (length s.names) q r (place-below s.names a q e) (place-below s.names b r f) apart
     ∙ ap₂ (has_edge s.edges) (name_at-place s.names a q e) (name_at-place s.names b r f)
 
--- a number is listed where its name is
-pub member-any : (qs : List ℕ) (q : ℕ) → is_member qs q ≡ list_any (λ r. nat_eq r q) qs
-member-any [] q = refl
-member-any (r ∷ qs) q =
-    let turned : nat_eq q r ≡ nat_eq r q = grind (arith, nat_tests) in
-    rw (turned, member-any qs q) refl
-
-pub numbered-name : (names listed : List Name) (outputs : List ℕ) (word : Name) (q : ℕ)
-    → AreNumbers names listed outputs → place_of names word ≡ Some q
-    → is_member outputs q ≡ is_held listed word
-numbered-name names listed outputs word q are e =
-    ap (λ ns. is_member ns q) are.numbers_are
-    ∙ member-any (map (number_in names) listed) q
-    ∙ listed-number names listed word q e are.held
-
 -- each name has an angle or is listed where each number has or is
 pub settled_at : (half : ℕ) (s : Spelled) (outputs : List ℕ) (q : ℕ) (d : Name)
     → IsDistinct name_eq s.names → AreNumbers s.names s.outputs outputs → q < length s.names
@@ -124,26 +94,3 @@ settled_at half s outputs q d distinct numbers lt =
       angled_at half s (get_or s.names q d) q place,
       numbered-name s.names s.outputs outputs (get_or s.names q d) q numbers place,
     ) refl
-
-pub all_settled : (half : ℕ) (s : Spelled) (outputs : List ℕ) → IsDistinct name_eq s.names
-    → AreNumbers s.names s.outputs outputs
-    → ((q : ℕ) → q < length s.names
-    → has_angle (graph_so_far half s) q || is_member outputs q ≡ true)
-    → list_all (is_settled s) s.names ≡ true
-all_settled half s outputs distinct numbers each =
-    list_all-from_AllPass (is_settled s) s.names (λ q d lt.
-    sym (settled_at half s outputs q d distinct numbers lt) ∙ each q lt)
-
-pub each_settled : (half : ℕ) (s : Spelled) (outputs : List ℕ) → IsDistinct name_eq s.names
-    → AreNumbers s.names s.outputs outputs → list_all (is_settled s) s.names ≡ true
-    → (q : ℕ) → q < length s.names
-    → has_angle (graph_so_far half s) q || is_member outputs q ≡ true
-each_settled half s outputs distinct numbers all q lt =
-    let d : Name = [] in
-    settled_at half s outputs q d distinct numbers lt
-    ∙ AllPass-from_list_all (is_settled s) s.names all q d lt
-
-pub same_truth : (a b : Bool) → (a ≡ true → b ≡ true) → (b ≡ true → a ≡ true) → a ≡ b
-same_truth true b there back = sym (there refl)
-same_truth false true there back = back refl
-same_truth false false there back = refl

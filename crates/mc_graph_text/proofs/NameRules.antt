@@ -16,8 +16,10 @@ use Rattle.mc_graph.specs.Rules.{has_angle, edge_rule, fix_rule}
 use Rattle.mc_graph_text.specs.Value.{Spelled}
 use Rattle.mc_graph_text.specs.Judge.{angled, still_name, other_name, output_name, fixed_name}
 use Rattle.mc_graph_text.specs.Kept.{graph_so_far, IsFirst}
-use Rattle.mc_graph_text.proofs.NameReads.{place-below, name_eq-same, angled_at, fixed_read}
-use Rattle.mc_graph_text.proofs.NameReads.{joined_at, numbered-name}
+use Rattle.mc_text.proofs.Members.{place-below, name_eq-same}
+use Rattle.mc_graph_text.proofs.NameReads.{angled_at, fixed_read}
+use Rattle.mc_text.proofs.Members.{numbered-name}
+use Rattle.mc_graph_text.proofs.NameReads.{joined_at}
 
 -- a name that is used, and its number
 pub record IsNumber (g : OpenGraph) (word : Name) (q : ℕ) : Type 0 where

@@ -13,7 +13,7 @@ use Rattle.mc_write.specs.Named.{name_at}
 use Rattle.mc_text.specs.Rules.{known_name}
 use Rattle.mc_text.proofs.Naming.{names_apart, is_name-name_at, held-name_at}
 use Rattle.mc_graph_text.specs.Value.{Pair, is_edge, has_edge}
-use Rattle.mc_graph_text.proofs.NameReads.{name_eq-same}
+use Rattle.mc_text.proofs.Members.{name_eq-same}
 
 -- names are the same where their numbers are
 pub name_eq-numbers : (names : List Name) (v u : ℕ) → IsDistinct name_eq names → v < length names →

@@ -2,12 +2,12 @@
 use Rattle.std.proofs.Common.{◌≡◌, ℕ, zero, suc, ◌+◌, ◌*◌, ◌<◌, ◌≤◌, List}
 use Rattle.std.proofs.Common.{[], ◌∷◌, ◌++◌, Bool}
 use Rattle.std.proofs.Common.{true}
-use Rattle.std.proofs.Common.{false, ◌&&◌, ◌==◌, Option, Some, None, length, map, take, drop, codes}
-use Rattle.std.proofs.Common.{refl, sym, ap, ap₂, ◌∙◌, arith, cond, IsTrue, if◌then◌else◌, ◌⊎◌}
-use Rattle.std.proofs.Common.{inl, inr, length-append}
-use Rattle.std.specs.Prelude.{is_some, unwrap_or, option_map, All}
+use Rattle.std.proofs.Common.{false, ◌&&◌, Option, Some, None, length, map, take, drop, codes}
+use Rattle.std.proofs.Common.{refl, sym, ap, ap₂, ◌∙◌, arith, cond, IsTrue}
+use Rattle.std.proofs.Common.{length-append}
+use Rattle.std.specs.Prelude.{is_some, unwrap_or, option_map}
 use Rattle.std.specs.Fmt.{decimal}
-use Rattle.std.specs.List.{flat_map, list_all, IsDistinct, AllByRecursion}
+use Rattle.std.specs.List.{flat_map, list_all, IsDistinct}
 use Rattle.std.proofs.lemmas.Bool.{lt-ltb}
 use Rattle.std.proofs.lemmas.List.{take-append-drop, length-take-le}
 use Rattle.std.proofs.lemmas.List.Folds.{list_all-append}
@@ -23,13 +23,16 @@ use Rattle.mc_model.specs.Graph.{fixed_at, not_fixed}
 use Rattle.mc_model.proofs.StepLemmas.{permitted_at_most}
 use Rattle.mc_angle.specs.Angle.{angle_of}
 use Rattle.mc_angle.proofs.Numerals.{number-decimal, angle-decimal}
-use Rattle.mc_write.specs.Text.{text_of}
 use Rattle.mc_write.specs.Named.{name_at}
-use Rattle.mc_text.specs.Headers.{header_words, version_word, turn_words}
+use Rattle.mc_text.specs.Headers.{header_words}
 use Rattle.mc_text.specs.Judged.{Lines, words_of, section_lines}
+use Rattle.std.proofs.lemmas.Bool.{and_parts}
+use Rattle.mc_text.proofs.FirstNames.{all_parts, at_written, distinct_part, each_written, names_written}
+use Rattle.mc_text.proofs.HeadersBack.{header_line, known_version, permitted_half}
+use Rattle.mc_text.proofs.HeadersWritten.{header_written}
 use Rattle.mc_text.proofs.Written.{is_written, is_written_line}
 use Rattle.mc_text.proofs.Clean.{IsRead, written_read}
-use Rattle.mc_text.proofs.Naming.{is_name-name_at, numbers-name_at, name_written, number_written}
+use Rattle.mc_text.proofs.Naming.{numbers-name_at, name_written, number_written}
 use Rattle.mc_graph.specs.Graphs.{IsGraph}
 use Rattle.mc_graph.proofs.ListedNumbers.{member-where}
 use Rattle.mc_graph.proofs.PairLists.{pairs_below-same}
@@ -51,26 +54,6 @@ use Rattle.mc_graph_text.proofs.CleanEnds.{end_reads}
 use Rattle.mc_graph_text.proofs.CleanEnds.{names_where, fixed_x_at, fixed_z_at}
 
 -- ---- the parts of a list
-
-and_both : (a b : Bool) → (a && b) ≡ true → (a ≡ true) × (b ≡ true)
-and_both true b e = (refl, e)
-and_both false b e = absurd (cc e)
-
-all_parts : (p : Name → Bool) (i : ℕ) (ns : List Name) → list_all p ns ≡ true →
-    (list_all p (take i ns) ≡ true) × (list_all p (drop i ns) ≡ true)
-all_parts p i ns all =
-    and_both (list_all p (take i ns)) (list_all p (drop i ns))
-    (sym (list_all-append p (take i ns) (drop i ns)) ∙ rw (take-append-drop i ns) all)
-
-front : (P : Name → Type 0) (xs ys : List Name) → AllByRecursion P (xs ++ ys) → AllByRecursion P xs
-front P [] ys all = tt
-front P (x ∷ xs) ys all = (all.0, front P xs ys all.1)
-
-distinct_part : (xs ys : List Name) → IsDistinct name_eq (xs ++ ys) → IsDistinct name_eq xs
-unfolding IsDistinct
-distinct_part [] ys distinct = tt
-distinct_part (x ∷ xs) ys distinct =
-    (front (λ y. name_eq x y ≡ false) xs ys distinct.0, distinct_part xs ys distinct.1)
 
 all_named : (names : List Name) → AreNames names → list_all is_name names ≡ true
 all_named names valid = list_all-from_AllPass is_name names valid.valid
@@ -209,22 +192,12 @@ lines_back half g h = ap (graph_by half) (graph_reads half g h).spelled ∙ grap
 
 -- ---- the canonical lines can be written
 
-names_written : (ns : List Name) → list_all is_name ns ≡ true → list_all is_written ns ≡ true
-names_written [] all = refl
-names_written (n ∷ ns) all =
-    let both = and_both (is_name n) (list_all is_name ns) all in
-    rw (name_written n both.0, names_written ns both.1) refl
-
 vertices_written : (ns : List Name) → list_all is_name ns ≡ true →
     list_all is_written_line (map vertex_line ns) ≡ true
 vertices_written [] all = refl
 vertices_written (n ∷ ns) all =
-    let both = and_both (is_name n) (list_all is_name ns) all in
+    let both = and_parts (is_name n) (list_all is_name ns) all in
     rw (name_written n both.0, vertices_written ns both.1) refl
-
-at_written : (names : List Name) (v : ℕ) → AreNames names → v < length names →
-    is_written (name_at names v) ≡ true
-at_written names v valid lt = name_written (name_at names v) (is_name-name_at names v valid lt)
 
 edges_written : (names : List Name) (es : List Edge) → AreNames names →
     EdgesRise (length names) es → list_all is_written_line (map (edge_line names) es) ≡ true
@@ -254,36 +227,12 @@ angle_written half g v (Some a) h lt e =
     let number = number_written (decimal a) (number-decimal a (omega arith)).0 in
     rw (name, number) refl
 
-outputs_written : (names : List Name) (qs : List ℕ) → AreNames names →
-    All (λ q. q < length names) qs → list_all is_written (map (name_at names) qs) ≡ true
-outputs_written names [] valid below = refl
-outputs_written names (q ∷ qs) valid below =
-    let lt : q < length names = below 0 q (omega arith) in
-    let rest = outputs_written names qs valid (λ k d l. below (suc k) d (omega arith)) in
-    rw (at_written names q valid lt, rest) refl
-
 fixed_written : (names : List Name) (v : ℕ) (x z : Bool) → AreNames names → v < length names →
     list_all is_written_line (fixed_lines names v (record { x = x; z = z })) ≡ true
 fixed_written names v false false valid lt = refl
 fixed_written names v false true valid lt = rw (at_written names v valid lt) refl
 fixed_written names v true false valid lt = rw (at_written names v valid lt) refl
 fixed_written names v true true valid lt = rw (at_written names v valid lt) refl
-
-version_written : (b : Bool) → is_written (version_word (if b then 2 else 1)) ≡ true
-version_written true = refl
-version_written false = refl
-
-turn_written : (half : ℕ) → list_all is_written (turn_words half) ≡ true
-turn_written half = by_test (half == 8)
-  where
-    by_test : (t : Bool) →
-        list_all is_written (if t then codes "turn" ∷ codes "16" ∷ [] else []) ≡ true
-    by_test true = refl
-    by_test false = refl
-
-header_written : (half : ℕ) (g : OpenGraph) →
-    is_written_line (header_words kind.Graph (graph_version g) half) ≡ true
-header_written half g = rw (version_written (has_fixed g), turn_written half) refl
 
 graph_written : (half : ℕ) (g : OpenGraph) → IsGraph half g →
     list_all is_written_line (header_words kind.Graph (graph_version g) half ∷ graph_lines g) ≡ true
@@ -296,13 +245,13 @@ graph_written half g h =
     let edges = edges_written g.names g.edges valid h.open_graph.edges in
     let angles = parts_written (λ v. angle_lines g.names v (base_angle g v)) 0 (size g) (size g)
     (omega arith) (λ v lt. angle_written half g v (base_angle g v) h lt refl) in
-    let outputs = outputs_written g.names g.outputs valid h.open_graph.outputs.below in
+    let outputs = each_written g.names g.outputs valid h.open_graph.outputs.below in
     let fixed = parts_written (λ v. fixed_lines g.names v (fixed_at g v)) 0 (size g) (size g)
     (omega arith) (λ v lt. fixed_written g.names v (fixed_at g v).x (fixed_at g v).z valid lt) in
     let out = codes "out" ∷ map (name_at g.names) g.outputs in
     let last = (codes "end" ∷ []) ∷ [] in
     rw (
-      header_written half g,
+      header_written kind.Graph (graph_version g) half,
       ins,
       list_all-append is_written_line (map vertex_line (drop g.inputs g.names))
           (map (edge_line g.names) g.edges ++ (angle_part g ++ out ∷ (fixed_part g ++ last))),
@@ -340,20 +289,9 @@ same_text half g k h i e =
 
 -- ---- the header
 
-first_words : (half : ℕ) (b : Bool) (lines : Lines) → (half ≡ 4) ⊎ (half ≡ 8) →
-    map (λ line. words_of line.items)
-    (take 1 (lines_of (text_of (header_words kind.Graph (if b then 2 else 1) half ∷ lines))))
-    ≡ header_words kind.Graph (if b then 2 else 1) half ∷ []
-first_words half true lines (inl e) = rw e refl
-first_words half true lines (inr e) = rw e refl
-first_words half false lines (inl e) = rw e refl
-first_words half false lines (inr e) = rw e refl
-
-four_or_eight : (half : ℕ) → IsTrue (is_permitted half) → (half ≡ 4) ⊎ (half ≡ 8)
-four_or_eight half permitted = grind arith
-
 pub header_back : (half : ℕ) (g : OpenGraph) → IsTrue (is_permitted half) →
     map (λ line. words_of line.items) (take 1 (lines_of (graph_text half g)))
     ≡ header_words kind.Graph (graph_version g) half ∷ []
 header_back half g permitted =
-    first_words half (has_fixed g) (graph_lines g) (four_or_eight half permitted)
+    header_line kind.Graph (graph_version g) half (graph_lines g) (known_version (has_fixed g))
+    (permitted_half half permitted)

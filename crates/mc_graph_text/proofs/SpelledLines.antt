@@ -11,6 +11,7 @@ use Rattle.mc_text.specs.Heads.{head_of, head_in, is_end}
 use Rattle.mc_text.specs.Points.{point_of, last_head}
 use Rattle.mc_text.specs.Judged.{Words, Lines}
 use Rattle.mc_text.specs.Lists.{names_in, names_at}
+use Rattle.mc_text.proofs.Done.{last_head-more}
 use Rattle.mc_text.proofs.Clean.{CleanWords, Clean, more}
 use Rattle.mc_graph_text.specs.Roles.{Role, role_of, may_follow, is_inner, is_late, is_joining}
 use Rattle.mc_graph_text.specs.Roles.{is_defining, is_input, is_measuring, is_output, is_fixing_x}
@@ -18,7 +19,6 @@ use Rattle.mc_graph_text.specs.Roles.{is_fixing_z}
 use Rattle.mc_graph_text.specs.Value.{Pair, pair_in, pairs_at, Spelled, spelled_at}
 use Rattle.mc_graph_text.specs.Judge.{judge_by, lacks_by, first_in, has_fixing, graph_rules}
 use Rattle.mc_graph_text.proofs.Pairs.{spelled-line}
-use Rattle.mc_graph_text.proofs.Heads.{last_head-more}
 
 -- ---- one line more
 

@@ -25,7 +25,7 @@ use Rattle.mc_graph_text.specs.Value.{graph_in}
 use Rattle.mc_graph_text.specs.Judge.{has_fixing, graph_rules}
 use Rattle.mc_graph_text.specs.Kept.{graph_so_far}
 use Rattle.mc_graph_text.proofs.Spelling.{outputs_fit_by}
-use Rattle.mc_graph_text.proofs.CleanSections.{behind_clean}
+use Rattle.mc_text.proofs.GoesOn.{behind_clean}
 use Rattle.mc_graph_text.proofs.Whole.{IsWhole, goes_on, whole_start}
 
 -- angles are less than a turn

@@ -1,15 +1,10 @@
 -- What lines without a fault spell is sound, and whole at their end.
 use Rattle.std.proofs.Common.{◌≡◌, ℕ, ◌<◌, ◌≤◌, List, [], ◌∷◌, ◌++◌, Bool, true, false}
 use Rattle.std.proofs.Common.{Option, Some, None, length, refl, sym, subst, ◌∙◌, arith}
-use Rattle.std.proofs.Common.{length-append, ◌==◌, not, nat_lt, nat_le, lt-ltb, ◌⊎◌, inl, inr}
-use Rattle.std.proofs.Common.{IsTrue}
+use Rattle.std.proofs.Common.{length-append, ◌==◌, not, nat_lt, lt-ltb, ◌⊎◌, inl, inr}
 use Rattle.std.proofs.Common.{if◌then◌else◌}
 use Rattle.std.specs.List.{list_all, IsDistinct}
-use Rattle.std.specs.Cmp.Lexicographic.{nat_list_eq_equiv}
-use Rattle.std.proofs.lemmas.Bool.Decides.{nat_tests}
 use Rattle.std.proofs.lemmas.List.{append-nil}
-use Rattle.std.proofs.lemmas.List.Elements.{All-push}
-use Rattle.std.proofs.lemmas.Map.Keys.{IsDistinct-push}
 use Rattle.mc_model.specs.Names.{Name, AreNames, is_name, is_held}
 use Rattle.mc_text.specs.declared.head.Head.{Head}
 use Rattle.mc_text.specs.declared.head.Head.TheVariants.{In, N, E, M, Out}
@@ -19,23 +14,26 @@ use Rattle.mc_text.specs.Points.{point_of, last_head}
 use Rattle.mc_text.specs.Judged.{Words, Lines}
 use Rattle.mc_text.specs.Rules.{number_in, new_name, known_name}
 use Rattle.mc_text.specs.Lists.{added}
+use Rattle.mc_text.proofs.Done.{last_head-more}
 use Rattle.mc_text.proofs.Going.{head_at}
 use Rattle.mc_text.proofs.Kept.{count_at, place-more}
 use Rattle.mc_text.proofs.Numbers.{held-place, place-held}
 use Rattle.mc_graph.specs.Rules.{has_angle, angle_rule}
+use Rattle.mc_text.proofs.Unbroken.{names_push}
 use Rattle.mc_graph_text.specs.Roles.{role_of, is_defining, is_input, is_measuring, is_output}
 use Rattle.mc_graph_text.specs.Value.{Spelled, spelled_at}
 use Rattle.mc_graph_text.specs.Judge.{angled, first_in, is_settled, judge_by, rules_with}
 use Rattle.mc_graph_text.specs.Kept.{graph_so_far, IsSound, IsFirst, IsUnlisted, opens, is_closed}
 use Rattle.mc_graph_text.specs.Kept.{is_keeping}
 use Rattle.mc_graph_text.proofs.Pairs.{spelled_with, spelled-word, spelled-line}
-use Rattle.mc_graph_text.proofs.Heads.{last_head-more, measuring_head}
-use Rattle.mc_graph_text.proofs.NameReads.{place-below, angled_at}
-use Rattle.mc_graph_text.proofs.Grown.{new_free, still_is, output_is, all_more, held-more}
+use Rattle.mc_graph_text.proofs.Heads.{measuring_head}
+use Rattle.mc_text.proofs.Members.{place-below}
+use Rattle.mc_graph_text.proofs.NameReads.{angled_at}
+use Rattle.mc_graph_text.proofs.Grown.{still_is, output_is, all_more, held-more}
 use Rattle.mc_graph_text.proofs.Stepping.{CanGrow, grows}
 use Rattle.mc_graph_text.proofs.KeepingWord.{first_there, nothing_listed, order_more, complete_more}
 use Rattle.mc_graph_text.proofs.KeepingLine.{unlisted_line, complete_line}
-use Rattle.mc_graph_text.proofs.CleanSections.{GoesOn}
+use Rattle.mc_text.proofs.GoesOn.{GoesOn}
 
 pub record IsWhole (fixes : Bool) (before : Lines) (here : Words) : Type 0 where
   pub sound : IsSound (spelled_at before here)
@@ -51,35 +49,6 @@ pub record IsWhole (fixes : Bool) (before : Lines) (here : Words) : Type 0 where
   pub unlisted : is_closed (last_head before) ≡ false → IsUnlisted before
   pub complete : is_closed (last_head before) ≡ true
       → list_all (is_settled (spelled_at before here)) (spelled_at before here).names ≡ true
-
--- a new name
-record IsNew (names : List Name) (word : Name) : Type 0 where
-  named : is_name word ≡ true
-  room : length names < 256
-
-new_is : (names : List Name) (word : Name) → new_name names word ≡ None → IsNew names word
-new_is names word clean =
-    by_tests (is_name word) (is_held names word) (nat_le 256 (length names)) refl refl refl
-  where
-    by_tests : (n h f : Bool) → is_name word ≡ n → is_held names word ≡ h
-        → nat_le 256 (length names) ≡ f → IsNew names word
-    by_tests false h f e i j = let clean' = rw e at clean in absurd (cc clean')
-    by_tests true true f e i j = let clean' = rw (e, i) at clean in absurd (cc clean')
-    by_tests true false true e i j = let clean' = rw (e, i, j) at clean in absurd (cc clean')
-    by_tests true false false e i j = record { named = e; room = grind (arith, nat_tests) }
-
-names_push : (names : List Name) (word : Name) → AreNames names → new_name names word ≡ None
-    → AreNames (names ++ word ∷ [])
-names_push names word h clean =
-    let is = new_is names word clean in
-    let long = length-append names (word ∷ []) in
-    let room = is.room in
-    record {
-      distinct =
-          IsDistinct-push nat_list_eq_equiv names word h.distinct (new_free names word clean);
-      valid = All-push (λ (name : Name). IsTrue (is_name name)) names word h.valid is.named;
-      few = omega arith;
-    }
 
 -- a word that defines a name
 defining_cases : (h : Option Head) → is_defining h ≡ true → (h ≡ Some In) ⊎ (h ≡ Some N)

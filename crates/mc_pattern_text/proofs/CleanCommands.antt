@@ -1,32 +1,33 @@
 -- Nothing is against the lines of the commands of a pattern's canonical text.
 use Rattle.std.proofs.Common.{◌≡◌, ℕ, zero, suc, ◌+◌, ◌<◌, ◌≤◌, Bool, true, false, ◌||◌, All, List}
 use Rattle.std.proofs.Common.{[], ◌∷◌, ◌++◌, length, map, take, drop, refl, sym, ap, ◌∙◌}
-use Rattle.std.proofs.Common.{append_assoc, arith, nat_eq, nat_le, Option, None}
-use Rattle.std.specs.List.{IsDistinct, AllByRecursion}
+use Rattle.std.proofs.Common.{arith, nat_eq, nat_le, Option, None}
+use Rattle.std.specs.List.{IsDistinct}
+use Rattle.std.proofs.Math.Seq.{take-suc}
 use Rattle.std.proofs.lemmas.Bool.{eqb-true}
+use Rattle.std.proofs.lemmas.Option.{unwrap_or-slice_get}
 use Rattle.std.proofs.lemmas.Bool.Decides.{nat_tests}
-use Rattle.std.proofs.lemmas.List.{map-append, append-nil, take-append-drop, length-take-le}
+use Rattle.std.proofs.lemmas.List.{take-append-drop, length-take-le}
 use Rattle.mc_model.specs.Names.{Name, AreNames, name_eq, is_held}
 use Rattle.mc_model.specs.Numbers.{is_member}
-use Rattle.mc_model.specs.Pattern.{Command, Prep, Ent, Meas, FixX, FixZ, measured_order}
+use Rattle.mc_model.specs.Pattern.{Command, Meas, measured_order}
 use Rattle.mc_model.specs.Signals.{Signal, IsRising}
 use Rattle.mc_model.specs.Valid.{IsLive, SignalFits, AllDone, measured, prepared}
-use Rattle.mc_pattern.proofs.Members.{below_by}
 use Rattle.mc_write.specs.Named.{name_at}
 use Rattle.mc_text.specs.declared.head.Head.{Head}
 use Rattle.mc_text.specs.Heads.{head_of}
 use Rattle.mc_text.specs.Points.{last_head}
-use Rattle.mc_text.specs.Judged.{Words, Lines, Rules}
+use Rattle.mc_text.specs.Judged.{Lines}
 use Rattle.mc_text.specs.Rules.{known_name}
 use Rattle.mc_text.specs.Lists.{names_at}
-use Rattle.mc_text.proofs.Clean.{CleanWords}
 use Rattle.mc_text.proofs.Naming.{held-name_at, is_name-name_at, numbers-name_at, place-name_at}
 use Rattle.mc_pattern_text.specs.Roles.{may_follow, follows_command, is_command, is_defining}
 use Rattle.mc_pattern_text.specs.Roles.{is_output}
 use Rattle.mc_pattern_text.specs.Value.{spelled_commands}
-use Rattle.mc_pattern_text.specs.Judge.{measured_in, still_name, member_name, next_record}
-use Rattle.mc_pattern_text.proofs.NamedSignals.{member-listed, member_free}
-use Rattle.mc_pattern_text.proofs.Parts.{all_front, among, below_all}
+use Rattle.mc_pattern_text.specs.Judge.{measured_in, still_name, next_record}
+use Rattle.mc_text.proofs.FirstNames.{distinct_part}
+use Rattle.mc_text.proofs.Members.{member-listed}
+use Rattle.mc_rows.proofs.Within.{all_members}
 
 -- the first names of a list
 pub front_at : (ns : List Name) (m q : ℕ) → q < m → name_at (take m ns) q ≡ name_at ns q
@@ -43,27 +44,14 @@ split_at (n ∷ ns) (suc m) lt = ap (λ (xs : List Name). n ∷ xs) (split_at ns
 
 pub front_more : (ns : List Name) (m : ℕ) → m < length ns
     → take (suc m) ns ≡ take m ns ++ name_at ns m ∷ []
-front_more [] m lt = absurd (omega arith)
-front_more (n ∷ ns) zero lt = refl
-front_more (n ∷ ns) (suc m) lt = ap (λ (xs : List Name). n ∷ xs) (front_more ns m (omega arith))
-
-front_all : (P : Name → Type 0) (xs ys : List Name) → AllByRecursion P (xs ++ ys)
-    → AllByRecursion P xs
-front_all P [] ys all = tt
-front_all P (x ∷ xs) ys all = (all.0, front_all P xs ys all.1)
-
-pub front_distinct : (xs ys : List Name) → IsDistinct name_eq (xs ++ ys) → IsDistinct name_eq xs
-unfolding IsDistinct
-front_distinct [] ys distinct = tt
-front_distinct (x ∷ xs) ys distinct =
-    (front_all (λ y. name_eq x y ≡ false) xs ys distinct.0, front_distinct xs ys distinct.1)
+front_more ns m lt = take-suc ns m [] lt ∙ rw (unwrap_or-slice_get ns m []) refl
 
 -- a qubit's name among the names of the first qubits
 pub known_front : (ns : List Name) (m q : ℕ) → AreNames ns → m ≤ length ns → q < m
     → known_name (take m ns) (name_at ns q) ≡ None
 known_front ns m q valid within lt =
     let long = length-take-le m ns within in
-    let distinct = front_distinct (take m ns) (drop m ns)
+    let distinct = distinct_part (take m ns) (drop m ns)
     (rw (take-append-drop m ns) valid.distinct) in
     let held : is_held (take m ns) (name_at ns q) ≡ true =
     rw (← front_at ns m q lt) (held-name_at (take m ns) q distinct (omega arith)) in
@@ -74,11 +62,8 @@ known_front ns m q valid within lt =
 pub measured_listed : (cs : List Command) (k : ℕ) → measured cs k ≡ is_member (measured_order cs) k
 unfolding measured
 measured_listed [] k = refl
-measured_listed (Prep q ∷ cs) k = measured_listed cs k
-measured_listed (Ent q r ∷ cs) k = measured_listed cs k
 measured_listed (Meas q a s t ∷ cs) k = ap (λ (b : Bool). nat_eq k q || b) (measured_listed cs k)
-measured_listed (FixX q s ∷ cs) k = measured_listed cs k
-measured_listed (FixZ q s ∷ cs) k = measured_listed cs k
+measured_listed (_ ∷ cs) k = measured_listed cs k
 
 pub held_written : (ns : List Name) (qs : List ℕ) (q : ℕ) → IsDistinct name_eq ns
     → All (λ r. r < length ns) qs → q < length ns
@@ -110,7 +95,7 @@ module _ (ns : List Name) (inputs : ℕ) (before : Lines) (done : List Command) 
   pub order_below : AreThere ns inputs before done → All (λ q. q < length ns) (measured_order done)
   order_below h =
       let within = h.within in
-      below_all (length ns) (measured_order done) (λ q is.
+      all_members (λ q. q < length ns) (measured_order done) (λ q is.
       let lt = h.seen q (measured_listed done q ∙ is) in omega arith)
 
   -- a record word of a command
@@ -176,36 +161,8 @@ signal_members ns inputs before done s h fits =
     let there : (q : ℕ) → is_member s.members q ≡ true → q < inputs + prepared done =
     λ q is. h.seen q (seen q is) in
     record {
-      below = below_all (length ns) s.members (λ q is. let lt = there q is in omega arith);
+      below = all_members (λ q. q < length ns) s.members (λ q is. let lt = there q is in omega arith);
       rising = fits.is_set;
       known = λ q is. known_clean ns inputs before done q h (there q is);
       early = λ q is. measured_held ns inputs before done q h (there q is) ∙ seen q is;
     }
-
--- where each word is judged as a member, behind the members before it, nothing is against a signal
-pub members_clean : (rules : Rules) (ns names measured : List Name) (before : Lines) (here : Words)
-    (done qs : List ℕ) (tail : Words) → AreNames ns → AreMembers ns names measured (done ++ qs)
-    → ((front : List ℕ) (q : ℕ) → All (λ r. r < length ns) front → q < length ns
-    → rules.judge before (here ++ map (name_at ns) front) (name_at ns q)
-    ≡ member_name names measured (map (name_at ns) front) (name_at ns q))
-    → CleanWords rules before (here ++ map (name_at ns) (done ++ qs)) tail
-    → CleanWords rules before (here ++ map (name_at ns) done) (map (name_at ns) qs ++ tail)
-members_clean rules ns names measured before here done [] tail valid are judged rest =
-    rw (append-nil done) at rest
-members_clean rules ns names measured before here done (q ∷ qs) tail valid are judged rest =
-    let is = among done q qs in
-    let lt = below_by (length ns) (done ++ q ∷ qs) q are.below is in
-    let front = all_front (length ns) done (q ∷ qs) are.below in
-    let free = member_free ns done q qs valid.distinct are.below are.rising in
-    let known = are.known q is in
-    let early = are.early q is in
-    let next : (done ++ q ∷ []) ++ qs ≡ done ++ (q ∷ qs) = append_assoc done (q ∷ []) qs in
-    let later = members_clean rules ns names measured before here (done ++ q ∷ []) qs tail valid
-    (rw next are) judged (rw next rest) in
-    let line : here ++ map (name_at ns) (done ++ q ∷ [])
-    ≡ (here ++ map (name_at ns) done) ++ name_at ns q ∷ [] =
-    ap (λ ws. here ++ ws) (map-append (name_at ns) done (q ∷ []))
-    ∙ sym (append_assoc here (map (name_at ns) done) (name_at ns q ∷ [])) in
-    let clean : member_name names measured (map (name_at ns) done) (name_at ns q) ≡ None =
-    rw (known, free, early) refl in
-    (judged done q front lt ∙ clean, rw line at later)

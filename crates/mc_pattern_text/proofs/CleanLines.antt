@@ -1,19 +1,18 @@
 -- Nothing is against the lines of a pattern's canonical text.
 use Rattle.std.proofs.Common.{◌≡◌, ℕ, suc, ◌+◌, ◌*◌, ◌<◌, ◌≤◌, Bool, true}
-use Rattle.std.proofs.Common.{false, ◌&&◌, ◌||◌, All}
+use Rattle.std.proofs.Common.{false, ◌&&◌, All}
 use Rattle.std.proofs.Common.{List, [], ◌∷◌, ◌++◌, length, map, take, drop, fold, codes, refl, sym}
-use Rattle.std.proofs.Common.{subst}
-use Rattle.std.proofs.Common.{ap, ◌∙◌, append_assoc, arith, ne_eqb, nat_le, ◌⊎◌, Option, Some, None}
-use Rattle.std.proofs.Common.{IsTrue, if◌then◌else◌}
+use Rattle.std.proofs.Common.{ap, ◌∙◌, append_assoc, arith, nat_le, ◌⊎◌, Option, Some, None}
+use Rattle.std.proofs.Common.{IsTrue}
 use Rattle.std.specs.Fmt.{decimal}
 use Rattle.std.specs.List.{list_all}
-use Rattle.std.specs.Option.{option_or}
 use Rattle.std.proofs.lemmas.List.Sums.{fold-append}
 use mathlib.Core.Logic.{inl, inr}
 use Rattle.mc_angle.specs.Number.{is_number, is_digit}
+use Rattle.std.proofs.lemmas.Bool.{and_parts, or_left, or_right}
 use Rattle.std.proofs.lemmas.Bool.Decides.{nat_tests}
-use Rattle.std.proofs.lemmas.List.{append-nil, length-take-le}
-use Rattle.mc_model.specs.Names.{Name, AreNames, is_name, is_held, is_name_byte}
+use Rattle.std.proofs.lemmas.List.{append-nil, map-append}
+use Rattle.mc_model.specs.Names.{Name, AreNames, is_name, is_name_byte}
 use Rattle.mc_model.specs.Signals.{Signal}
 use Rattle.mc_model.specs.Pattern.{Command, Prep, Ent, Meas, FixX, FixZ, has_constant}
 use Rattle.mc_model.specs.Steps.{is_permitted}
@@ -23,7 +22,8 @@ use Rattle.mc_model.proofs.ValidLemmas.{prepared-append}
 use Rattle.mc_angle.proofs.Numerals.{angle-decimal, number-decimal}
 use Rattle.mc_pattern.specs.Typed.{IsTyped}
 use Rattle.mc_write.specs.Named.{name_at}
-use Rattle.mc_text.specs.declared.head.Head.TheVariants.{M}
+use Rattle.mc_text.specs.declared.head.Head.{Head}
+use Rattle.mc_text.specs.declared.head.Head.TheVariants.{M, X, Z}
 use Rattle.mc_text.specs.declared.point.Mark.{Mark}
 use Rattle.mc_text.specs.declared.point.Mark.TheVariants.{S, T}
 use Rattle.mc_text.specs.Heads.{head_of}
@@ -34,161 +34,123 @@ use Rattle.mc_text.specs.Lists.{names_at}
 use Rattle.mc_text.proofs.Going.{head_at}
 use Rattle.mc_text.proofs.Kept.{count_at, name_no_mark}
 use Rattle.mc_text.proofs.Clean.{CleanWords}
-use Rattle.mc_text.proofs.Naming.{is_name-name_at, distinct_front, names_apart}
-use Rattle.mc_pattern_text.specs.Roles.{role_in, role_of, role_behind, is_defining}
-use Rattle.mc_pattern_text.specs.Value.{is_first, is_second, word_under, words_under}
+use Rattle.mc_text.proofs.Naming.{is_name-name_at, names_apart}
+use Rattle.mc_text.proofs.Members.{first_new}
+use Rattle.mc_pattern.proofs.Members.{below_by}
+use Rattle.mc_rows.specs.Written.{set_words}
+use Rattle.mc_rows.proofs.Lines.{all_front, among, free, named_all}
+use Rattle.mc_rows.proofs.Sets.{name_no_one}
+use Rattle.mc_pattern_text.specs.Roles.{term, role_of, role_behind, is_defining, is_correcting}
+use Rattle.mc_pattern_text.specs.Value.{first_of, second_of, first_signal, second_signal}
 use Rattle.mc_pattern_text.specs.Judge.{measured_in, member_name, term_word, rules_with}
-use Rattle.mc_pattern_text.specs.Canonical.{constant_words, signal_words, marked, command_line}
-use Rattle.mc_pattern_text.proofs.Under.{onto_mark, mark_at}
-use Rattle.mc_pattern_text.proofs.Terms.{name_no_constant}
+use Rattle.mc_pattern_text.specs.Canonical.{signal_words, marked, command_line}
+use Rattle.mc_text.proofs.NamesHere.{names_stay}
+use Rattle.mc_pattern_text.proofs.Under.{AreUnmarked, behind, behind-append, correction_behind}
+use Rattle.mc_pattern_text.proofs.Under.{correction_role, first_behind, last_unmarked, mark_at}
+use Rattle.mc_pattern_text.proofs.Under.{onto_mark, role_behind_angle, second_behind, unmarked}
 use Rattle.mc_pattern_text.proofs.CleanCommands.{AreThere, AreMembers, record_clean, still_clean}
-use Rattle.mc_pattern_text.proofs.CleanCommands.{signal_members, members_clean, split_at}
-use Rattle.mc_pattern_text.proofs.Parts.{and_both, or_right}
+use Rattle.mc_pattern_text.proofs.CleanCommands.{signal_members, split_at}
 
--- the role of a word behind the first of a correction
-pub correction_role : (before : Lines) (h : List ℕ) (w : List ℕ) (list : Words)
-    → role_of (point_of before (h ∷ w ∷ list))
-    ≡ role_in (head_of h) (point_of before (h ∷ w ∷ list)).count
-    (point_of before (h ∷ w ∷ list)).mark
-correction_role before h w list =
-    let count = count_at before (h ∷ w ∷ list) in
-    let some = ne_eqb (point_of before (h ∷ w ∷ list)).count 0 (λ none. omega arith) in
-    rw (some, head_at before (h ∷ w ∷ list)) refl
+-- a word of a correction's signal, and the end of its line
+module _ (constants : Bool) (before : Lines) (h w : List ℕ) (list : Words)
+    (gate : is_correcting (head_of h) ≡ true) where
+  role_here : role_of (point_of before (h ∷ w ∷ list)) ≡ term
+  role_here =
+      let count = count_at before (h ∷ w ∷ list) in
+      correction_role (point_of before (h ∷ w ∷ list))
+      (rw (head_at before (h ∷ w ∷ list)) gate) (omega arith)
 
-x_judged : (constants : Bool) (before : Lines) (w word : List ℕ) (list : Words)
-    → (rules_with constants).judge before (codes "x" ∷ w ∷ list) word
-    ≡ term_word constants (names_at is_defining before []) (measured_in before) list word
-x_judged constants before w word list =
-    let p = point_of before (codes "x" ∷ w ∷ list) in
-    let count = count_at before (codes "x" ∷ w ∷ list) in
-    let many = ne_eqb p.count 1 (λ one. omega arith) in
-    rw (correction_role before (codes "x") w list, many, head_at before (codes "x" ∷ w ∷ list)) refl
+  correction_judged : (word : List ℕ) → (rules_with constants).judge before (h ∷ w ∷ list) word
+      ≡ term_word constants (names_at is_defining before []) (measured_in before) list word
+  correction_judged word =
+      let stay = names_stay is_defining before h (w ∷ list) (not_defining (head_of h) gate) in
+      rw (role_here, correction_behind h w list gate, stay) refl
+    where
+      not_defining : (hd : Option Head) → is_correcting hd ≡ true → is_defining hd ≡ false
+      not_defining None e = absurd (cc e)
+      not_defining (Some X) e = refl
+      not_defining (Some Z) e = refl
+      not_defining (Some _) e = absurd (cc e)
 
-z_judged : (constants : Bool) (before : Lines) (w word : List ℕ) (list : Words)
-    → (rules_with constants).judge before (codes "z" ∷ w ∷ list) word
-    ≡ term_word constants (names_at is_defining before []) (measured_in before) list word
-z_judged constants before w word list =
-    let p = point_of before (codes "z" ∷ w ∷ list) in
-    let count = count_at before (codes "z" ∷ w ∷ list) in
-    let many = ne_eqb p.count 1 (λ one. omega arith) in
-    rw (correction_role before (codes "z") w list, many, head_at before (codes "z" ∷ w ∷ list)) refl
+  correction_lacks : (rules_with constants).lacks before (h ∷ w ∷ list) ≡ None
+  correction_lacks = rw role_here refl
 
-x_lacks : (constants : Bool) (before : Lines) (w : List ℕ) (list : Words)
-    → (rules_with constants).lacks before (codes "x" ∷ w ∷ list) ≡ None
-x_lacks constants before w list =
-    let p = point_of before (codes "x" ∷ w ∷ list) in
-    let count = count_at before (codes "x" ∷ w ∷ list) in
-    let many = ne_eqb p.count 1 (λ one. omega arith) in
-    rw (correction_role before (codes "x") w list, many) refl
-
-z_lacks : (constants : Bool) (before : Lines) (w : List ℕ) (list : Words)
-    → (rules_with constants).lacks before (codes "z" ∷ w ∷ list) ≡ None
-z_lacks constants before w list =
-    let p = point_of before (codes "z" ∷ w ∷ list) in
-    let count = count_at before (codes "z" ∷ w ∷ list) in
-    let many = ne_eqb p.count 1 (λ one. omega arith) in
-    rw (correction_role before (codes "z") w list, many) refl
-
--- words without marks
-abbrev pub AreUnmarked : Words → Type 0
-AreUnmarked words = (mark : Option Mark) → (fold onto_mark mark words ≡ mark)
-    × ((test : Option Mark → Bool) → words_under test mark words
-    ≡ (if test mark then words else []))
-
-unmarked-cons : (w : List ℕ) (words : Words) → mark_of w ≡ None → AreUnmarked words
-    → AreUnmarked (w ∷ words)
-unmarked-cons w words none rest mark = (
-  rw none (rest mark).0,
-  λ test. rw (none, (rest mark).1 test) (both (test mark)),
-)
-  where
-    both : (t : Bool) → (if t then w ∷ [] else []) ++ (if t then words else [])
-        ≡ (if t then w ∷ words else [])
-    both true = refl
-    both false = refl
-
-unmarked_none : AreUnmarked []
-unmarked_none mark = (refl, λ test. either (test mark))
-  where
-    either : (t : Bool) → let none : Words = [] in none ≡ (if t then none else none)
-    either true = refl
-    either false = refl
-
-pub names_unmarked : (ns : List Name) (qs : List ℕ) → AreNames ns → All (λ q. q < length ns) qs
-    → AreUnmarked (map (name_at ns) qs)
-names_unmarked ns [] valid below = unmarked_none
-names_unmarked ns (q ∷ qs) valid below =
-    let lt : q < length ns = below 0 q (omega arith) in
-    unmarked-cons (name_at ns q) (map (name_at ns) qs)
-    (name_no_mark (name_at ns q) (is_name-name_at ns q valid lt))
-    (names_unmarked ns qs valid (λ k d l. below (suc k) d (omega arith)))
-
+-- the words of signals are no marks
 pub signal_unmarked : (ns : List Name) (qs : List ℕ) (b : Bool) → AreNames ns
-    → All (λ q. q < length ns) qs → AreUnmarked (map (name_at ns) qs ++ constant_words b)
-signal_unmarked ns [] false valid below = unmarked_none
-signal_unmarked ns [] true valid below = unmarked-cons (codes "!") [] refl unmarked_none
+    → All (λ q. q < length ns) qs → AreUnmarked (set_words ns qs b)
+signal_unmarked ns [] false valid below = tt
+signal_unmarked ns [] true valid below = (refl, tt)
 signal_unmarked ns (q ∷ qs) b valid below =
-    let lt : q < length ns = below 0 q (omega arith) in
-    unmarked-cons (name_at ns q) (map (name_at ns) qs ++ constant_words b)
-    (name_no_mark (name_at ns q) (is_name-name_at ns q valid lt))
-    (signal_unmarked ns qs b valid (λ k d l. below (suc k) d (omega arith)))
+    let lt : q < length ns = below 0 q (omega arith) in (
+      name_no_mark (name_at ns q) (is_name-name_at ns q valid lt),
+      signal_unmarked ns qs b valid (λ k d l. below (suc k) d (omega arith)),
+    )
+
+names_unmarked : (ns : List Name) (qs : List ℕ) → AreNames ns → All (λ q. q < length ns) qs
+    → AreUnmarked (map (name_at ns) qs)
+names_unmarked ns qs valid below =
+    let all = signal_unmarked ns qs false valid below in
+    rw (append-nil (map (name_at ns) qs)) at all
 
 -- a name is judged as a member, and the constant stands behind names alone
 name_term : (constants : Bool) (names measured : List Name) (words : Words) (word : List ℕ)
     → is_name word ≡ true
     → term_word constants names measured words word ≡ member_name names measured words word
-name_term true names measured words word named = rw (name_no_constant word named) refl
+name_term true names measured words word named = rw (name_no_one word named) refl
 name_term false names measured words word named = refl
 
-constant_free : (ns : List Name) (qs : List ℕ) → AreNames ns → All (λ q. q < length ns) qs
-    → is_held (map (name_at ns) qs) (codes "!") ≡ false
-constant_free ns [] valid below = refl
-constant_free ns (q ∷ qs) valid below =
-    let lt : q < length ns = below 0 q (omega arith) in
-    let other = name_no_constant (name_at ns q) (is_name-name_at ns q valid lt) in
-    rw (other, constant_free ns qs valid (λ k d l. below (suc k) d (omega arith))) refl
-
--- where each word is judged as a term, nothing is against a signal
-module _ (constants : Bool) (ns names measured : List Name) (before : Lines) (here : Words)
-    (judged : (list : Words) (word : List ℕ) → AreUnmarked list → mark_of word ≡ None
+-- where each word is judged as a term, nothing is against a signal, behind the members before
+module _ (constants : Bool) (ns names measured : List Name) (valid : AreNames ns) (before : Lines)
+    (here : Words) (judged : (list : Words) (word : List ℕ) → AreUnmarked list → mark_of word ≡ None
     → (rules_with constants).judge before (here ++ list) word
     ≡ term_word constants names measured list word) where
-  constant_clean : (qs : List ℕ) (b : Bool) (tail : Words) → AreNames ns
-      → All (λ q. q < length ns) qs → (b ≡ true → constants ≡ true)
-      → CleanWords (rules_with constants) before (here ++ (map (name_at ns) qs ++ constant_words b))
-      tail
-      → CleanWords (rules_with constants) before (here ++ map (name_at ns) qs)
-      (constant_words b ++ tail)
-  constant_clean qs false tail valid below permits rest =
-      rw (append-nil (map (name_at ns) qs)) at rest
-  constant_clean qs true tail valid below permits rest =
-      let list = map (name_at ns) qs in
-      let free = constant_free ns qs valid below in
+  terms_clean : (done qs : List ℕ) (b : Bool) (tail : Words)
+      → AreMembers ns names measured (done ++ qs) → (b ≡ true → constants ≡ true)
+      → CleanWords (rules_with constants) before (here ++ set_words ns (done ++ qs) b) tail
+      → CleanWords (rules_with constants) before (here ++ map (name_at ns) done)
+      (set_words ns qs b ++ tail)
+  terms_clean done [] false tail are permits rest =
+      rw (append-nil done, append-nil (map (name_at ns) done)) at rest
+  terms_clean done [] true tail are permits rest =
+      let list = map (name_at ns) done in
+      let all = are.below in
+      let below : All (λ q. q < length ns) done = rw (append-nil done) at all in
+      let free = (named_all ns done valid below).1 in
       let clean : term_word constants names measured list (codes "!") ≡ None =
       rw (permits refl, free) refl in (
-        judged list (codes "!") (names_unmarked ns qs valid below) refl ∙ clean,
-        rw (← append_assoc here list (codes "!" ∷ [])) at rest,
+        judged list (codes "!") (names_unmarked ns done valid below) refl ∙ clean,
+        rw (append-nil done, ← append_assoc here list (codes "!" ∷ [])) at rest,
+      )
+  terms_clean done (q ∷ qs) b tail are permits rest =
+      let list = map (name_at ns) done in
+      let is = among done q qs in
+      let lt = below_by (length ns) (done ++ q ∷ qs) q are.below is in
+      let front = all_front (length ns) done (q ∷ qs) are.below in
+      let name = is_name-name_at ns q valid lt in
+      let known = are.known q is in
+      let same = (named_all ns done valid front).0 in
+      let apart = free ns done q qs valid.distinct are.below are.rising in
+      let early = are.early q is in
+      let clean : member_name names measured list (name_at ns q) ≡ None =
+      rw (known, same, apart, early) refl in
+      let next : (done ++ q ∷ []) ++ qs ≡ done ++ (q ∷ qs) = append_assoc done (q ∷ []) qs in
+      let later = terms_clean (done ++ q ∷ []) qs b tail (rw next are) permits (rw next rest) in
+      let line : here ++ map (name_at ns) (done ++ q ∷ []) ≡ (here ++ list) ++ name_at ns q ∷ [] =
+      ap (λ ws. here ++ ws) (map-append (name_at ns) done (q ∷ []))
+      ∙ sym (append_assoc here list (name_at ns q ∷ [])) in (
+        judged list (name_at ns q) (names_unmarked ns done valid front)
+            (name_no_mark (name_at ns q) name)
+            ∙ name_term constants names measured list (name_at ns q) name ∙ clean,
+        rw line at later,
       )
 
-  signal_clean : (qs : List ℕ) (b : Bool) (tail : Words) → AreNames ns
-      → AreMembers ns names measured qs → (b ≡ true → constants ≡ true)
-      → CleanWords (rules_with constants) before (here ++ (map (name_at ns) qs ++ constant_words b))
-      tail
-      → CleanWords (rules_with constants) before here
-      ((map (name_at ns) qs ++ constant_words b) ++ tail)
-  signal_clean qs b tail valid are permits rest =
-      let clean = members_clean (rules_with constants) ns names measured before here [] qs
-      (constant_words b ++ tail) valid are
-      (λ front q below lt.
-      let named = is_name-name_at ns q valid lt in
-      judged (map (name_at ns) front) (name_at ns q) (names_unmarked ns front valid below)
-      (name_no_mark (name_at ns q) named)
-      ∙ name_term constants names measured (map (name_at ns) front) (name_at ns q) named)
-      (constant_clean qs b tail valid are.below permits rest) in
-      subst (λ (words : Words). CleanWords (rules_with constants) before words
-      ((map (name_at ns) qs ++ constant_words b) ++ tail)) (append-nil here)
-      (subst (λ (words : Words). CleanWords (rules_with constants) before (here ++ []) words)
-      (sym (append_assoc (map (name_at ns) qs) (constant_words b) tail)) clean)
+  signal_clean : (qs : List ℕ) (b : Bool) (tail : Words) → AreMembers ns names measured qs
+      → (b ≡ true → constants ≡ true)
+      → CleanWords (rules_with constants) before (here ++ set_words ns qs b) tail
+      → CleanWords (rules_with constants) before here (set_words ns qs b ++ tail)
+  signal_clean qs b tail are permits rest =
+      let clean = terms_clean [] qs b tail are permits rest in
+      rw (append-nil here) at clean
 
 -- the words of a measurement behind its angle
 pub m_role : (before : Lines) (h w a : List ℕ) (words : Words) → head_of h ≡ Some M
@@ -198,10 +160,8 @@ m_role before h w a words g =
     let here = h ∷ w ∷ a ∷ words in
     let p = point_of before here in
     let count = count_at before here in
-    let none = ne_eqb p.count 0 (λ e. omega arith) in
-    let one = ne_eqb p.count 1 (λ e. omega arith) in
-    let two = ne_eqb p.count 2 (λ e. omega arith) in
-    rw (none, head_at before here, g, one, two, mark_at before h (w ∷ a ∷ words)) refl
+    role_behind_angle p (rw (head_at before here) g) (omega arith)
+    ∙ ap role_behind (mark_at before h (w ∷ a ∷ words))
 
 -- a number is a name, and so no mark
 digit_name : (b : ℕ) → is_digit b ≡ true → is_name_byte b ≡ true
@@ -210,13 +170,13 @@ digit_name b e = grind (arith, nat_tests)
 digits_name : (w : List ℕ) → list_all is_digit w ≡ true → list_all is_name_byte w ≡ true
 digits_name [] all = refl
 digits_name (b ∷ w) all =
-    let both = and_both (is_digit b) (list_all is_digit w) all in
+    let both = and_parts (is_digit b) (list_all is_digit w) all in
     rw (digit_name b both.0, digits_name w both.1) refl
 
 number_name : (w : List ℕ) → is_number w ≡ true → is_name w ≡ true
 number_name w e =
-    let parts = and_both (nat_le 1 (length w) && nat_le (length w) 4) (list_all is_digit w) e in
-    let sizes = and_both (nat_le 1 (length w)) (nat_le (length w) 4) parts.0 in
+    let parts = and_parts (nat_le 1 (length w) && nat_le (length w) 4) (list_all is_digit w) e in
+    let sizes = and_parts (nat_le 1 (length w)) (nat_le (length w) 4) parts.0 in
     rw (sizes.0, longer (length w) sizes.1, digits_name w parts.1) refl
   where
     longer : (n : ℕ) → nat_le n 4 ≡ true → nat_le n 16 ≡ true
@@ -228,123 +188,99 @@ decimal_no_mark half a permitted lt =
     let few : half ≤ 8 = permitted_at_most half permitted in
     name_no_mark (decimal a) (number_name (decimal a) (number-decimal a (omega arith)).0)
 
--- the words under a mark, behind others
-pub under-append : (test : Option Mark → Bool) (mark : Option Mark) (xs ys : Words)
-    → words_under test mark (xs ++ ys)
-    ≡ words_under test mark xs ++ words_under test (fold onto_mark mark xs) ys
-under-append test mark [] ys = refl
-under-append test mark (x ∷ xs) ys =
-    rw (under-append test (option_or (mark_of x) mark) xs ys)
-    (sym (append_assoc (word_under test mark x) (words_under test (option_or (mark_of x) mark) xs)
-    (words_under test (fold onto_mark (option_or (mark_of x) mark) xs) ys)))
-
 -- the first signal, behind the angle
 record AreFirst (firsts : Words) : Type 0 where
   mark : (fold onto_mark None firsts ≡ None) ⊎ (fold onto_mark None firsts ≡ Some S)
-  none : words_under is_second None firsts ≡ []
+  none : behind second_of None firsts ≡ []
 
 first_words : (words : Words) → AreUnmarked words → AreFirst (marked (codes "s:") words)
 first_words [] plain = record { mark = inl refl; none = refl }
-first_words (word ∷ words) plain =
-    record { mark = inr (plain (Some S)).0; none = (plain (Some S)).1 is_second }
+first_words (word ∷ words) plain = record {
+  mark = inr (last_unmarked (Some S) (word ∷ words) plain);
+  none = unmarked second_of (Some S) false (λ w none. refl) (word ∷ words) plain;
+}
 
 module _ (constants : Bool) (before : Lines) (w a : List ℕ) (no_w : mark_of w ≡ None)
     (no_a : mark_of a ≡ None) where
+  start : fold onto_mark None (w ∷ a ∷ []) ≡ None
+  start = rw (no_w, no_a) refl
+
+  pub first_under : (words : Words)
+      → first_signal (codes "m" ∷ w ∷ a ∷ words) ≡ behind first_of None words
+  first_under words =
+      first_behind (codes "m") w a words refl
+      ∙ ap (λ (mark : Option Mark). behind first_of mark words) start
+
+  pub second_under : (words : Words)
+      → second_signal (codes "m" ∷ w ∷ a ∷ words) ≡ behind second_of None words
+  second_under words =
+      second_behind (codes "m") w a words refl
+      ∙ ap (λ (mark : Option Mark). behind second_of mark words) start
+
+  role_at_mark : (words : Words) (mark : Option Mark) → fold onto_mark None words ≡ mark
+      → role_of (point_of before (codes "m" ∷ w ∷ a ∷ words)) ≡ role_behind mark
+  role_at_mark words mark e =
+      m_role before (codes "m") w a words refl
+      ∙ ap role_behind (ap (λ (m : Option Mark). fold onto_mark m words) start ∙ e)
+
   s_judged : (rules_with constants).judge before (codes "m" ∷ w ∷ a ∷ []) (codes "s:") ≡ None
-  s_judged = rw (m_role before (codes "m") w a [] refl, no_w, no_a) refl
+  s_judged = rw (role_at_mark [] None refl) refl
 
   first_judged : (list : Words) (word : List ℕ) → AreUnmarked list → mark_of word ≡ None
       → (rules_with constants).judge before (codes "m" ∷ w ∷ a ∷ codes "s:" ∷ list) word
       ≡ term_word constants (names_at is_defining before []) (measured_in before) list word
   first_judged list word plain none =
-      let here = codes "m" ∷ w ∷ a ∷ codes "s:" ∷ list in
-      let mark = (plain (Some S)).0 in
-      let under = (plain (Some S)).1 is_first in
       rw (
-        m_role before (codes "m") w a (codes "s:" ∷ list) refl,
-        head_at before here,
-        mark_at before (codes "m") (w ∷ a ∷ codes "s:" ∷ list),
-        no_w,
-        no_a,
-        mark,
-        under,
+        role_at_mark (codes "s:" ∷ list) (Some S) (last_unmarked (Some S) list plain),
+        first_under (codes "s:" ∷ list),
+        unmarked first_of (Some S) true (λ v free. rw free refl) list plain,
         none,
-        append-nil list,
       ) refl
 
   firsts_end : (firsts : Words) → AreFirst firsts
       → (rules_with constants).lacks before (codes "m" ∷ w ∷ a ∷ firsts) ≡ None
   firsts_end firsts first = elim first.mark [
-    | inl none ↦ rw (m_role before (codes "m") w a firsts refl, no_w, no_a, none) refl
-    | inr some ↦ rw (m_role before (codes "m") w a firsts refl, no_w, no_a, some) refl
+    | inl none ↦ rw (role_at_mark firsts None none) refl
+    | inr some ↦ rw (role_at_mark firsts (Some S) some) refl
   ]
 
   t_judged : (firsts : Words) → AreFirst firsts
       → (rules_with constants).judge before (codes "m" ∷ w ∷ a ∷ firsts) (codes "t:") ≡ None
   t_judged firsts first = elim first.mark [
-    | inl none ↦ rw (m_role before (codes "m") w a firsts refl, no_w, no_a, none) refl
-    | inr some ↦ rw (m_role before (codes "m") w a firsts refl, no_w, no_a, some) refl
+    | inl none ↦ rw (role_at_mark firsts None none) refl
+    | inr some ↦ rw (role_at_mark firsts (Some S) some) refl
   ]
 
   t_mark : (firsts list : Words) → AreUnmarked list
       → fold onto_mark None (firsts ++ codes "t:" ∷ list) ≡ Some T
   t_mark firsts list plain =
-      fold-append onto_mark None firsts (codes "t:" ∷ list) ∙ (plain (Some T)).0
-
-  two_marks : (words : Words) → fold onto_mark None (w ∷ a ∷ words) ≡ fold onto_mark None words
-  two_marks words =
-      let start : option_or (mark_of a) (option_or (mark_of w) None)
-      ≡ None = rw (no_w, no_a) refl in
-      ap (λ mark. fold onto_mark mark words) start
-
-  pub two_under : (test : Option Mark → Bool) (words : Words) → test None ≡ false
-      → words_under test None (w ∷ a ∷ words) ≡ words_under test None words
-  two_under test words none =
-      let start : option_or (mark_of a) (option_or (mark_of w) None)
-      ≡ None = rw (no_w, no_a) refl in
-      let first : word_under test None w ≡ [] = rw (no_w, none) refl in
-      let second : word_under test (option_or (mark_of w) None) a
-      ≡ [] = rw (no_a, no_w, none) refl in
-      ap (λ ws. ws ++ (word_under test (option_or (mark_of w) None) a
-      ++ words_under test (option_or (mark_of a) (option_or (mark_of w) None)) words)) first
-      ∙ ap (λ ws. ws ++ words_under test (option_or (mark_of a) (option_or (mark_of w) None)) words)
-      second
-      ∙ ap (λ mark. words_under test mark words) start
-
-  t_last : (firsts list : Words) → AreUnmarked list
-      → fold onto_mark None (w ∷ a ∷ (firsts ++ codes "t:" ∷ list)) ≡ Some T
-  t_last firsts list plain =
-      two_marks (firsts ++ codes "t:" ∷ list) ∙ t_mark firsts list plain
+      fold-append onto_mark None firsts (codes "t:" ∷ list) ∙ last_unmarked (Some T) list plain
 
   second_list : (firsts list : Words) → AreFirst firsts → AreUnmarked list
-      → words_under is_second None (w ∷ a ∷ (firsts ++ codes "t:" ∷ list)) ≡ list
+      → second_signal (codes "m" ∷ w ∷ a ∷ (firsts ++ codes "t:" ∷ list)) ≡ list
   second_list firsts list first plain =
-      two_under is_second (firsts ++ codes "t:" ∷ list) refl
-      ∙ under-append is_second None firsts (codes "t:" ∷ list)
-      ∙ rw first.none ((plain (Some T)).1 is_second)
+      let all = unmarked second_of (Some T) true (λ v free. refl) list plain in
+      second_under (firsts ++ codes "t:" ∷ list)
+      ∙ behind-append second_of None firsts (codes "t:" ∷ list)
+      ∙ elim first.mark [
+        | inl none ↦ rw (first.none, none) all
+        | inr some ↦ rw (first.none, some) all
+      ]
 
   second_judged : (firsts list : Words) (word : List ℕ) → AreFirst firsts → AreUnmarked list
       → (rules_with constants).judge before (codes "m" ∷ w ∷ a ∷ (firsts ++ codes "t:" ∷ list)) word
       ≡ term_word constants (names_at is_defining before []) (measured_in before) list word
   second_judged firsts list word first plain =
-      let words = firsts ++ codes "t:" ∷ list in
-      let here = codes "m" ∷ w ∷ a ∷ words in
-      let mark = t_last firsts list plain in
-      let second = second_list firsts list first plain in
       rw (
-        m_role before (codes "m") w a words refl,
-        head_at before here,
-        mark_at before (codes "m") (w ∷ a ∷ words),
-        mark,
-        second,
+        role_at_mark (firsts ++ codes "t:" ∷ list) (Some T) (t_mark firsts list plain),
+        second_list firsts list first plain,
       ) refl
 
   second_end : (firsts list : Words) → AreUnmarked list
       → (rules_with constants).lacks before (codes "m" ∷ w ∷ a ∷ (firsts ++ codes "t:" ∷ list))
       ≡ None
   second_end firsts list plain =
-      let mark = t_last firsts list plain in
-      rw (m_role before (codes "m") w a (firsts ++ codes "t:" ∷ list) refl, mark) refl
+      rw (role_at_mark (firsts ++ codes "t:" ∷ list) (Some T) (t_mark firsts list plain)) refl
 
   -- a signal behind its mark, where there is one
   first_clean : (words tail : Words)
@@ -385,40 +321,30 @@ module _ (constants : Bool) (before : Lines) (w a : List ℕ) (no_w : mark_of w 
       let ends : CleanWords (rules_with constants) before (here ++ seconds) [] =
       ap (λ (words : Words). (rules_with constants).lacks before words) (along seconds)
       ∙ second_end firsts seconds (signal_unmarked ns t.members t.constant valid are_t.below) in
-      let second = signal_clean constants ns names (measured_in before) before here
+      let second = signal_clean constants ns names (measured_in before) valid before here
       (λ list word plain' none.
       ap (λ (words : Words). (rules_with constants).judge before words word) (along list)
       ∙ second_judged firsts list word first plain')
-      t.members t.constant [] valid are_t t_permits ends in
+      t.members t.constant [] are_t t_permits ends in
       first_clean (signal_words ns s) (marked (codes "t:") seconds)
-      (signal_clean constants ns names (measured_in before) before
+      (signal_clean constants ns names (measured_in before) valid before
       (codes "m" ∷ w ∷ a ∷ codes "s:" ∷ []) first_judged s.members s.constant
-      (marked (codes "t:") seconds) valid are_s s_permits)
+      (marked (codes "t:") seconds) are_s s_permits)
       (second_clean firsts seconds first (rw (append-nil seconds) at second))
 
 -- a command that may stand there
 new_clean : (ns : List Name) (m : ℕ) → AreNames ns → m < length ns
     → new_name (take m ns) (name_at ns m) ≡ None
 new_clean ns m valid lt =
-    let named = is_name-name_at ns m valid lt in
-    let distinct = rw (split_at ns m lt) at valid.distinct in
-    let free = distinct_front (take m ns) (name_at ns m) (drop (suc m) ns) distinct in
-    let long = length-take-le m ns (omega arith) in
+    let parts = split_at ns m lt in
     let few = valid.few in
-    let room : nat_le 256 (length (take m ns)) ≡ false =
-    late (length (take m ns)) (omega (arith, long, few)) in
-    rw (named, free, room) refl
-  where
-    late : (n : ℕ) → n < 256 → nat_le 256 n ≡ false
-    late n lt = grind (arith, nat_tests)
+    let whole = ap length parts in
+    first_new (take m ns) (name_at ns m) (drop (suc m) ns) (is_name-name_at ns m valid lt)
+    (rw parts at valid.distinct) (omega (arith, few, whole))
 
 prepared_one : (q : ℕ) → prepared (Prep q ∷ []) ≡ 1
 unfolding prepared
 prepared_one q = refl
-
-pub or_first : (a b : Bool) → a ≡ true → (a || b) ≡ true
-or_first true b e = refl
-or_first false b e = absurd (cc e)
 
 pub command_clean : (constants : Bool) (half : ℕ) (ns : List Name) (inputs : ℕ) (before : Lines)
     (done : List Command) (c : Command) → AreThere ns inputs before done
@@ -459,7 +385,7 @@ command_clean constants half ns inputs before done (Meas q a s t) h permitted wi
         (
           rw angle refl,
           signals_clean constants before (name_at ns q) (decimal a) no_w no_a ns s t h.names first
-              second (λ e. permits (or_first s.constant t.constant e))
+              second (λ e. permits (or_left s.constant t.constant e))
               (λ e. permits (or_right s.constant t.constant e)),
         ),
       ),
@@ -469,9 +395,10 @@ command_clean constants half ns inputs before done (FixX q s) h permitted within
     let are = signal_members ns inputs before done s h fits.1 in
     let w = name_at ns q in
     let signal = signal_clean constants ns (names_at is_defining before []) (measured_in before)
-    before (codes "x" ∷ w ∷ []) (λ list word plain none. x_judged constants before w word list)
-    s.members s.constant [] h.names are permits
-    (x_lacks constants before w (signal_words ns s)) in (
+    h.names before (codes "x" ∷ w ∷ []) (λ list word plain none.
+    correction_judged constants before (codes "x") w list refl word)
+    s.members s.constant [] are permits
+    (correction_lacks constants before (codes "x") w (signal_words ns s) refl) in (
       record_clean ns inputs before done (codes "x") h room refl,
       (still_clean ns inputs before done q h fits.0, rw (append-nil (signal_words ns s)) at signal),
     )
@@ -480,9 +407,10 @@ command_clean constants half ns inputs before done (FixZ q s) h permitted within
     let are = signal_members ns inputs before done s h fits.1 in
     let w = name_at ns q in
     let signal = signal_clean constants ns (names_at is_defining before []) (measured_in before)
-    before (codes "z" ∷ w ∷ []) (λ list word plain none. z_judged constants before w word list)
-    s.members s.constant [] h.names are permits
-    (z_lacks constants before w (signal_words ns s)) in (
+    h.names before (codes "z" ∷ w ∷ []) (λ list word plain none.
+    correction_judged constants before (codes "z") w list refl word)
+    s.members s.constant [] are permits
+    (correction_lacks constants before (codes "z") w (signal_words ns s) refl) in (
       record_clean ns inputs before done (codes "z") h room refl,
       (still_clean ns inputs before done q h fits.0, rw (append-nil (signal_words ns s)) at signal),
     )

@@ -1,18 +1,20 @@
 -- Nothing is against a pattern's canonical text.
-use Rattle.std.proofs.Common.{◌≡◌, ℕ, zero, suc, ◌+◌, ◌<◌, ◌≤◌, Bool, true, false, not, ◌||◌, All}
+use Rattle.std.proofs.Common.{◌≡◌, ℕ, suc, ◌+◌, ◌<◌, ◌≤◌, Bool, true, false, not, ◌||◌, All}
 use Rattle.std.proofs.Common.{List, [], ◌∷◌, ◌++◌, length, map, take, drop, codes, refl, sym, ap}
-use Rattle.std.proofs.Common.{◌∙◌, append_assoc, length-append, arith, eq-eqb, ne_eqb, nat_eq}
-use Rattle.std.proofs.Common.{nat_le, Option, Some, IsTrue, if◌then◌else◌, cond, count_by, get_or}
+use Rattle.std.proofs.Common.{◌∙◌, append_assoc, length-append, arith, eq-eqb, nat_eq}
+use Rattle.std.proofs.Common.{Option, Some, IsTrue, cond, count_by, get_or}
+use Rattle.std.specs.Option.{unwrap_or}
+use Rattle.std.proofs.Math.Seq.{take-length}
+use Rattle.std.proofs.lemmas.Option.{slice_get-get_or}
 use Rattle.std.specs.List.{filter_map, flat_map, list_all, list_any, IsDistinct}
-use Rattle.std.proofs.lemmas.Bool.{cases_Bool}
-use Rattle.std.proofs.lemmas.Bool.Decides.{nat_tests}
+use Rattle.std.proofs.lemmas.Bool.{and_parts, cases_Bool, or_left, or_right}
 use Rattle.std.proofs.lemmas.List.{append-nil, map-append, length-take-le, take-append-drop}
 use Rattle.std.proofs.lemmas.List.Elements.{filter_map-append}
 use Rattle.std.proofs.lemmas.List.Sums.{sum_by-append, sum_by-cons, list_all-from_AllPass}
 use mathlib.Core.Logic.{inl, inr}
 use Rattle.mc_model.specs.Names.{Name, AreNames, name_eq, is_name}
 use Rattle.mc_model.specs.Numbers.{is_member}
-use Rattle.mc_model.specs.Pattern.{Command, Prep, Ent, Meas, FixX, FixZ, Pattern, measured_by}
+use Rattle.mc_model.specs.Pattern.{Command, Prep, Pattern, measured_by}
 use Rattle.mc_model.specs.Pattern.{measured_order, has_constant}
 use Rattle.mc_model.specs.Steps.{is_permitted}
 use Rattle.mc_model.specs.Valid.{FitsBehind, IsValid, measured, prepared}
@@ -23,25 +25,27 @@ use Rattle.mc_pattern.proofs.Members.{below_by, counts_member, member_counts}
 use Rattle.mc_write.specs.Named.{name_at}
 use Rattle.mc_text.specs.declared.head.Head.{Head}
 use Rattle.mc_text.specs.declared.head.Head.TheVariants.{Out}
-use Rattle.mc_text.specs.Heads.{head_of, head_in, is_end}
-use Rattle.mc_text.specs.Points.{point_of}
+use Rattle.mc_text.specs.Heads.{head_in, is_end}
 use Rattle.mc_text.specs.Judged.{Words, Lines}
 use Rattle.mc_text.specs.Lists.{names_in, names_at, operand_at}
-use Rattle.mc_text.proofs.Going.{head_at}
-use Rattle.mc_text.proofs.Kept.{count_some, names_at-line}
+use Rattle.mc_text.proofs.Kept.{names_at-line}
 use Rattle.mc_text.proofs.Clean.{CleanWords, Clean, last, more}
-use Rattle.mc_text.proofs.Naming.{distinct_front}
-use Rattle.mc_pattern_text.specs.Roles.{may_follow, role_of, role_in, follows_command, is_defining}
+use Rattle.mc_text.proofs.FirstNames.{all_parts, distinct_part}
+use Rattle.mc_text.proofs.Members.{first_new}
+use Rattle.mc_pattern_text.specs.Roles.{may_follow, follows_command, is_defining}
 use Rattle.mc_pattern_text.specs.Roles.{is_measuring, is_output}
 use Rattle.mc_pattern_text.specs.Value.{spelled_command, spelled_commands}
 use Rattle.mc_pattern_text.specs.Judge.{measured_in, is_settled, rules_with, pattern_rules}
 use Rattle.mc_pattern_text.specs.Judge.{permits_constants}
 use Rattle.mc_pattern_text.specs.Canonical.{pattern_version, command_line, pattern_lines}
 use Rattle.mc_pattern_text.proofs.NamedCommands.{measured_there}
-use Rattle.mc_pattern_text.proofs.CleanCommands.{IsAfter, AreThere, front_distinct, front_more}
+use Rattle.mc_pattern_text.proofs.CleanCommands.{IsAfter, AreThere, front_more}
 use Rattle.mc_pattern_text.proofs.CleanCommands.{known_clean, measured_held, held_written}
-use Rattle.mc_pattern_text.proofs.CleanLines.{command_clean, or_first}
-use Rattle.mc_pattern_text.proofs.Parts.{all_front, and_both, or_right, last_head-line}
+use Rattle.mc_pattern_text.proofs.CleanLines.{command_clean}
+use Rattle.mc_rows.proofs.Lines.{all_front, among}
+use Rattle.mc_text.proofs.Done.{last_head-more}
+use Rattle.mc_text.proofs.NamesHere.{names_here}
+use Rattle.mc_pattern_text.proofs.Under.{role_at}
 
 -- the lines of one command more
 after_by : (ns : List Name) (inputs : ℕ) (before : Lines) (done : List Command) (c : Command)
@@ -64,7 +68,7 @@ after_by ns inputs before done c here h defined operand outputs follows spelled 
         map-append (name_at ns) (measured_order done) (measured_order (c ∷ [])),
       ) refl;
   none = names_at-line is_output before here ∙ outputs ∙ h.none;
-  takes = λ head. rw (last_head-line before here) (follows head);
+  takes = λ head. rw (last_head-more before here) (follows head);
   count =
       let count = h.count in
       let lines = length-append (spelled_commands before)
@@ -99,25 +103,13 @@ command_after ns inputs before done (Prep q) h fits within =
     ∙ rw (front_more ns m lt, fits) refl in
     after_by ns inputs before done (Prep q) (command_line ns (Prep q)) h (rw next defined) refl refl
     (λ head. refl) refl
-command_after ns inputs before done (Ent q r) h fits within =
-    after_by ns inputs before done (Ent q r) (command_line ns (Ent q r)) h
-    (h.defined ∙ same_count ns inputs done (Ent q r) refl) refl refl (λ head. refl) refl
-command_after ns inputs before done (Meas q a s t) h fits within =
-    after_by ns inputs before done (Meas q a s t) (command_line ns (Meas q a s t)) h
-    (h.defined ∙ same_count ns inputs done (Meas q a s t) refl) refl refl (λ head. refl) refl
-command_after ns inputs before done (FixX q s) h fits within =
-    after_by ns inputs before done (FixX q s) (command_line ns (FixX q s)) h
-    (h.defined ∙ same_count ns inputs done (FixX q s) refl) refl refl (λ head. refl) refl
-command_after ns inputs before done (FixZ q s) h fits within =
-    after_by ns inputs before done (FixZ q s) (command_line ns (FixZ q s)) h
-    (h.defined ∙ same_count ns inputs done (FixZ q s) refl) refl refl (λ head. refl) refl
+command_after ns inputs before done _ h fits within =
+    after_by ns inputs before done _ _ h (h.defined ∙ same_count ns inputs done _ refl) refl refl
+    (λ head. refl) refl
 
 no_end : (ns : List Name) (c : Command) → is_end (head_in (command_line ns c)) ≡ false
 no_end ns (Prep q) = refl
-no_end ns (Ent q r) = refl
-no_end ns (Meas q a s t) = refl
-no_end ns (FixX q s) = refl
-no_end ns (FixZ q s) = refl
+no_end ns _ = refl
 
 commands_clean : (constants : Bool) (half : ℕ) (ns : List Name) (inputs : ℕ) (before : Lines)
     (done cs : List Command) (tail : Lines) → IsAfter ns inputs before done → AreNames ns
@@ -148,7 +140,7 @@ commands_clean constants half ns inputs before done (c ∷ cs) tail h names perm
     } in
     more before (command_line ns c) (map (command_line ns) cs ++ tail)
     (command_clean constants half ns inputs before done c there permitted here room fits typed.0
-    (λ e. permits (or_first (has_constant c) (list_any has_constant cs) e)))
+    (λ e. permits (or_left (has_constant c) (list_any has_constant cs) e)))
     (no_end ns c)
     (commands_clean constants half ns inputs (before ++ command_line ns c ∷ []) (done ++ c ∷ []) cs
     tail (command_after ns inputs before done c h fits here) names permitted (rw next valid)
@@ -157,80 +149,50 @@ commands_clean constants half ns inputs before done (c ∷ cs) tail h names perm
     (λ before' after. rest before' (rw next at after)))
 
 -- the inputs
-pub role_at : (before : Lines) (h : List ℕ) (list : Words)
-    → role_of (point_of before (h ∷ list))
-    ≡ role_in (head_of h) (point_of before (h ∷ list)).count (point_of before (h ∷ list)).mark
-role_at before h list =
-    rw (
-      ne_eqb (point_of before (h ∷ list)).count 0 (count_some before h list),
-      head_at before
-          (h ∷ list),
-    ) refl
-
-pub names_here : (test : Option Head → Bool) (before : Lines) (h : List ℕ) (ws : Words)
-    → names_at test before (h ∷ ws)
-    ≡ names_at test before [] ++ (if test (head_of h) then ws else [])
-names_here test before h ws = rw (append-nil (flat_map (names_in test) before)) refl
-
-pub names_stay : (test : Option Head → Bool) (before : Lines) (h : List ℕ) (words : Words)
-    → test (head_of h) ≡ false → names_at test before (h ∷ words) ≡ names_at test before []
-names_stay test before h words e =
-    names_here test before h words ∙ rw e (append-nil (names_at test before []))
-
 inputs_clean : (constants : Bool) (ws ps : List Name) → list_all is_name ps ≡ true
     → IsDistinct name_eq (ws ++ ps) → length (ws ++ ps) ≤ 256
     → CleanWords (rules_with constants) [] (codes "in" ∷ ws) ps
 inputs_clean constants ws [] named distinct few = rw (role_at [] (codes "in") ws) refl
 inputs_clean constants ws (p ∷ ps) named distinct few =
-    let both = and_both (is_name p) (list_all is_name ps) named in
-    let free = distinct_front ws p ps distinct in
-    let long = length-append ws (p ∷ ps) in
-    let room : nat_le 256 (length ws) ≡ false = late (length ws) (omega (arith, long, few)) in
+    let both = and_parts (is_name p) (list_all is_name ps) named in
+    let new = first_new ws p ps both.0 distinct few in
     let next : (ws ++ p ∷ []) ++ ps ≡ ws ++ (p ∷ ps) = append_assoc ws (p ∷ []) ps in (
-      rw (role_at [] (codes "in") ws, both.0, free, room) refl,
+      rw (role_at [] (codes "in") ws) new,
       inputs_clean constants (ws ++ p ∷ []) ps both.1 (rw next distinct) (rw next few),
     )
-  where
-    late : (n : ℕ) → n < 256 → nat_le 256 n ≡ false
-    late n lt = grind (arith, nat_tests)
 
 -- the outputs
 record AreDue (ns : List Name) (done : List Command) (qs : List ℕ) : Type 0 where
   below : All (λ q. q < length ns) qs
   once : (q : ℕ) → q < length ns → count_by (nat_eq q) qs ≡ cond (not (measured done q)) 1 0
 
-count_front : (q : ℕ) (done qs : List ℕ) → count_by (nat_eq q) (done ++ q ∷ qs) ≤ 1
-    → is_member done q ≡ false
-count_front q done qs once =
+-- a qubit that is listed once is not measured, and not among those before it
+once_there : (m : Bool) (q : ℕ) (done qs : List ℕ)
+    → count_by (nat_eq q) (done ++ q ∷ qs) ≡ cond (not m) 1 0
+    → (m ≡ false) × (is_member done q ≡ false)
+once_there m q done qs count =
     let both = sum_by-append (λ s. cond (nat_eq q s) 1 0) done (q ∷ qs) in
     let here = sum_by-cons (λ s. cond (nat_eq q s) 1 0) q qs in
     let one : ℕ = 1 in
-    let same : cond (nat_eq q q) 1 0 ≡ one = rw (eq-eqb q q refl) refl in
-    elim (cases_Bool (is_member done q)) [
-      | inl is ↦ let some = member_counts done q is in absurd
-          (omega (arith, both, here, same, once, some))
-      | inr none ↦ none
-    ]
+    let same : cond (nat_eq q q) 1 0 ≡ one = rw (eq-eqb q q refl) refl in (
+      live m count (omega (arith, both, here, same)),
+      elim (cases_Bool (is_member done q)) [
+        | inl is ↦
+            let some = member_counts done q is in
+            let most = few m in
+            absurd (omega (arith, both, here, same, count, some, most))
+        | inr none ↦ none
+      ],
+    )
+  where
+    few : (t : Bool) → cond (not t) 1 0 ≤ 1
+    few true = omega arith
+    few false = omega arith
 
-count_last : (q : ℕ) (done qs : List ℕ) → 1 ≤ count_by (nat_eq q) (done ++ q ∷ qs)
-count_last q done qs =
-    let both = sum_by-append (λ s. cond (nat_eq q s) 1 0) done (q ∷ qs) in
-    let here = sum_by-cons (λ s. cond (nat_eq q s) 1 0) q qs in
-    let one : ℕ = 1 in
-    let same : cond (nat_eq q q) 1 0 ≡ one = rw (eq-eqb q q refl) refl in
-    omega (arith, both, here, same)
-
-due_by : (t : Bool) → 1 ≤ cond (not t) 1 0 → t ≡ false
-due_by true some = absurd (omega arith)
-due_by false some = refl
-
-live_one : (t : Bool) → t ≡ false → 1 ≤ cond (not t) 1 0
-live_one true e = absurd (cc e)
-live_one false e = omega arith
-
-few_by : (t : Bool) → cond (not t) 1 0 ≤ 1
-few_by true = omega arith
-few_by false = omega arith
+    live : (t : Bool) → count_by (nat_eq q) (done ++ q ∷ qs) ≡ cond (not t) 1 0
+        → 1 ≤ count_by (nat_eq q) (done ++ q ∷ qs) → t ≡ false
+    live true e some = absurd (omega (arith, e, some))
+    live false e some = refl
 
 settled_by : (t s : Bool) → (t ≡ false → s ≡ true) → (t || s) ≡ true
 settled_by true s due = refl
@@ -243,17 +205,18 @@ outputs_clean : (constants : Bool) (ns : List Name) (inputs : ℕ) (before : Lin
     (map (name_at ns) qs)
 outputs_clean constants ns inputs before done listed [] h whole due =
     let list = map (name_at ns) listed in
-    let all : take (inputs + prepared done) ns ≡ ns = rw whole (take_whole ns) in
+    let all : take (inputs + prepared done) ns ≡ ns = rw whole (take-length ns) in
     let due' = rw (append-nil listed) at due in
     let each : list_all (is_settled (measured_in before) list) ns ≡ true =
     list_all-from_AllPass (is_settled (measured_in before) list) ns (λ q d lt.
-    let here : get_or ns q d ≡ name_at ns q = at_default ns q d lt in
+    let here : get_or ns q d ≡ name_at ns q =
+    sym (ap (λ (name : Option Name). unwrap_or name []) (slice_get-get_or ns q d lt)) in
     let held = measured_held ns inputs before done q h (omega (arith, whole, lt)) in
     let out = held_written ns listed q h.names.distinct due'.below lt in
     rw (here, held, out) (settled_by (measured done q) (is_member listed q) (λ live.
     counts_member listed q (let count = due'.once q lt in
-    let one = live_one (measured done q) live in
-    omega (arith, count, one))))) in
+    let one = rw live at count in
+    omega (arith, one))))) in
     rw (
       role_at before (codes "out") list,
       names_here is_output before (codes "out") list,
@@ -264,26 +227,14 @@ outputs_clean constants ns inputs before done listed [] h whole due =
       all,
       each,
     ) refl
-  where
-    take_whole : (xs : List Name) → take (length xs) xs ≡ xs
-    take_whole [] = refl
-    take_whole (x ∷ xs) = ap (λ (ys : List Name). x ∷ ys) (take_whole xs)
-
-    at_default : (xs : List Name) (q : ℕ) (d : Name) → q < length xs → get_or xs q d ≡ name_at xs q
-    at_default [] q d lt = absurd (omega arith)
-    at_default (x ∷ xs) zero d lt = refl
-    at_default (x ∷ xs) (suc q) d lt = at_default xs q d (omega arith)
 outputs_clean constants ns inputs before done listed (q ∷ qs) h whole due =
     let list = map (name_at ns) listed in
     let lt : q < length ns = below_by (length ns) (listed ++ q ∷ qs) q due.below
-    (counts_member (listed ++ q ∷ qs) q (count_last q listed qs)) in
-    let count = due.once q lt in
-    let some = count_last q listed qs in
-    let most = few_by (measured done q) in
-    let live = due_by (measured done q) (omega (arith, count, some)) in
+    (among listed q qs) in
+    let once = once_there (measured done q) q listed qs (due.once q lt) in
+    let live = once.0 in
     let front = all_front (length ns) listed (q ∷ qs) due.below in
-    let free = held_written ns listed q h.names.distinct front lt
-    ∙ count_front q listed qs (omega (arith, count, most)) in
+    let free = held_written ns listed q h.names.distinct front lt ∙ once.1 in
     let known = known_clean ns inputs before done q h (omega (arith, whole, lt)) in
     let held = measured_held ns inputs before done q h (omega (arith, whole, lt)) ∙ live in
     let next : (listed ++ q ∷ []) ++ qs ≡ listed ++ (q ∷ qs) = append_assoc listed (q ∷ []) qs in
@@ -303,14 +254,6 @@ outputs_clean constants ns inputs before done listed (q ∷ qs) h whole due =
     )
 
 -- the whole text
-all_named : (m : ℕ) (ns : List Name) → list_all is_name ns ≡ true
-    → list_all is_name (take m ns) ≡ true
-all_named zero ns all = refl
-all_named (suc m) [] all = refl
-all_named (suc m) (n ∷ ns) all =
-    let both = and_both (is_name n) (list_all is_name ns) all in
-    rw (both.0, all_named m ns both.1) refl
-
 pub inputs_after : (ns : List Name) (inputs : ℕ)
     → IsAfter ns inputs ((codes "in" ∷ take inputs ns) ∷ []) []
 unfolding prepared
@@ -335,7 +278,7 @@ pattern_clean half p h permitted =
     let out = codes "out" ∷ map (name_at ns) p.outputs in
     let end = (codes "end" ∷ []) ∷ [] in
     let qubits = h.valid.qubits in
-    let distinct = front_distinct ins (drop p.inputs ns)
+    let distinct = distinct_part ins (drop p.inputs ns)
     (rw (take-append-drop p.inputs ns) valid.distinct) in
     let few = valid.few in
     let long = length-take-le p.inputs ns (omega (arith, qubits)) in
@@ -344,7 +287,7 @@ pattern_clean half p h permitted =
     more [] (codes "in" ∷ ins) (map (command_line ns) p.commands ++ out ∷ end) (
       refl,
       inputs_clean constants [] ins
-          (all_named p.inputs ns (list_all-from_AllPass is_name ns valid.valid)) distinct
+          (all_parts is_name p.inputs ns (list_all-from_AllPass is_name ns valid.valid)).0 distinct
           (omega (arith, long, few, qubits)),
     )
     refl
@@ -358,7 +301,7 @@ pattern_clean half p h permitted =
           (rw (append-nil p.commands) h.valid.commands) is;
     } in
     let takes = after.takes (Some Out) in
-    let follows = last_head-line before' out in
+    let follows = last_head-more before' out in
     more before' out end (
       rw takes refl,
       outputs_clean constants ns p.inputs before' p.commands [] p.outputs there (sym qubits)

@@ -25,7 +25,8 @@ use Rattle.mc_pattern_text.specs.Value.{Spelled, spelled_command, spelled_comman
 use Rattle.mc_pattern_text.specs.Judge.{measured_in, lacks_by, rules_with}
 use Rattle.mc_pattern_text.specs.Kept.{IsKept, AreMarked, IsSpelled, AreOperands, Ends}
 use Rattle.mc_pattern_text.specs.Kept.{command_with}
-use Rattle.mc_pattern_text.proofs.Marked.{place-below}
+use Rattle.mc_text.proofs.Members.{place-below}
+use Rattle.mc_rows.proofs.Sets.{no_members}
 use Rattle.mc_pattern_text.proofs.Keeping.{marked-word}
 use Rattle.mc_pattern_text.proofs.KeepingWord.{known_of, count_kept}
 use Rattle.mc_pattern_text.proofs.Under.{measuring_head}
@@ -34,16 +35,14 @@ use Rattle.mc_pattern_text.proofs.Made.{command_same}
 -- the measured qubits
 pub replaced_or : (marks : Bits) (q r : ℕ) (t : Bool) → nat_eq r q ≡ t
     → replaced marks q true r ≡ marks r || nat_eq r q
-replaced_or marks q r true e = rw e (sym (or_last (marks r)))
+replaced_or marks q r true e = rw e (or_last (marks r))
   where
-    or_last : (b : Bool) → (b || true) ≡ true
-    or_last true = refl
-    or_last false = refl
-replaced_or marks q r false e = rw e (sym (or_none (marks r)))
+    or_last : (b : Bool) → true ≡ (b || true)
+    or_last b = grind arith
+replaced_or marks q r false e = rw e (or_none (marks r))
   where
-    or_none : (b : Bool) → (b || false) ≡ b
-    or_none true = refl
-    or_none false = refl
+    or_none : (b : Bool) → b ≡ (b || false)
+    or_none b = grind arith
 
 measured_other : (before : Lines) (h : List ℕ) (words : Words) → is_measuring (head_of h) ≡ false
     → measured_in (before ++ (h ∷ words) ∷ []) ≡ measured_in before
@@ -98,13 +97,12 @@ commands_line f commands c before here all one =
 -- nothing is kept of the words of a line that has not begun
 nothing_spelled : (names : List (List ℕ)) → IsSpelled names [] no_signal
 nothing_spelled names =
-    record { members = record { held = refl; marked = λ q. refl }; constant = refl }
+    record { held = refl; set_is = sym (no_members names); constant_is = refl }
 
 pub no_operands : {half : ℕ} (names : List (List ℕ)) (o : Operands half)
     → o.s ≡ no_signal → o.t ≡ no_signal → AreOperands names o []
 no_operands names o s t = record {
   place = λ a none. absurd (cc none);
-  unmarked = λ a none. absurd (cc none);
   second = λ b none. absurd (cc none);
   angle = λ b none. absurd (cc none);
   s = rw s (nothing_spelled names);
@@ -120,20 +118,20 @@ pub line_kept : {half : ℕ} (k k' : Reader half) (before : Lines) (here : Words
     → IsKept k before here → p ≡ point_of before here → Ends k k' p
     → (lacks_by (known_of k before here) (role_of p) ≡ None) × IsKept k' (before ++ here ∷ []) []
 line_kept k k' before [] p kept e ends =
-    let clean = ends.clean (measured_in before) (names_at is_output before []) [] None 0
+    let clean = ends.clean (measured_in before) (names_at is_output before []) [] [] None 0
     kept.measured kept.outputs in
     let clean' = rw e at clean in
     absurd (cc clean')
 line_kept {half} k k' before (h ∷ words) p kept e ends =
     let here = h ∷ words in
     let known = known_of k before here in
-    let clean = ends.clean known.measured known.listed known.signal known.operand known.commands
+    let clean = ends.clean known.measured known.listed known.s known.t known.operand known.commands
     kept.measured kept.outputs in
     let head : p.head ≡ head_of h = rw (e, head_at before here) refl in
     let listed = names_at-line is_output before here in
     let commands = map (plain_command {h = half}) k.commands.items in
-    let same = λ (more : List (List ℕ)). command_same k before h words p more e kept ends.typed
-    clean (head_of h) refl in (
+    let same = λ (more : List (List ℕ)). command_same k before h words p more e kept clean
+    (head_of h) refl in (
       clean,
       record {
         names = ends.names ∙ kept.names ∙ sym (names_at-line is_defining before here);

@@ -17,14 +17,12 @@ use Rattle.mc_text.proofs.Going.{head_at}
 use Rattle.mc_text.proofs.Kept.{count_at, names_at-word, numbers-word}
 use Rattle.mc_text.proofs.Kept as lists
 use Rattle.mc_pattern_text.specs.declared.reader.Reader.{Reader}
-use Rattle.mc_pattern_text.specs.declared.reader.Operands.{Operands}
 use Rattle.mc_pattern_text.specs.Roles.{role_of, is_defining, is_input}
 use Rattle.mc_pattern_text.specs.Roles.{is_entangling, is_command, has_operand, is_output}
-use Rattle.mc_pattern_text.specs.Value.{spelled_commands}
-use Rattle.mc_pattern_text.specs.Judge.{Known, measured_in, first_signal, second_signal}
-use Rattle.mc_pattern_text.specs.Judge.{is_in_second, known_at}
+use Rattle.mc_pattern_text.specs.Value.{first_signal, second_signal, spelled_commands}
+use Rattle.mc_pattern_text.specs.Judge.{Known, measured_in}
 use Rattle.mc_pattern_text.specs.Judge.{judge_by, rules_with}
-use Rattle.mc_pattern_text.specs.Kept.{IsKept, AreMarked, IsSpelled, AreOperands, IsOperand}
+use Rattle.mc_pattern_text.specs.Kept.{IsKept, AreMarked, AreOperands, IsOperand}
 use Rattle.mc_pattern_text.specs.Kept.{Stands, known_by}
 use Rattle.mc_pattern_text.specs.Kept.{Lists, Moves}
 use Rattle.mc_pattern_text.proofs.Keeping.{marked-more, operands_more}
@@ -53,20 +51,14 @@ operand_there before (h ∷ a ∷ words) p names q e two gate place =
     let head = entangling_head (head_of h) gate' in
     record { name = a; is = rw head refl; place = place a (rw head refl) }
 
-spelled_at : {half : ℕ} (names : List (List ℕ)) (o : Operands half) (here : Words) (t : Bool)
-    → IsSpelled names (first_signal here) o.s → IsSpelled names (second_signal here) o.t
-    → IsSpelled names (if t then second_signal here else first_signal here) (if t then o.t else o.s)
-spelled_at names o here true first second = second
-spelled_at names o here false first second = first
-
 pub stands_at : {half : ℕ} (k : Reader half) (before : Lines) (here : Words) (p : Point)
     → IsKept k before here → p ≡ point_of before here
-    → Stands k.names (bits_of k.marks) k.operands p (measured_in before)
-    (known_at before here).signal (operand_at 0 has_operand here)
+    → Stands k.names (bits_of k.marks) k.operands p (measured_in before) (first_signal here)
+    (second_signal here) (operand_at 0 has_operand here)
 stands_at k before here p h e = record {
   are_measured = h.measured;
-  spelled = rw (← e)
-      (spelled_at k.names k.operands here (is_in_second p) h.operands.s h.operands.t);
+  s_is = h.operands.s;
+  t_is = h.operands.t;
   operand = λ two gate.
       operand_there before here p k.names k.operands.first e two gate h.operands.place;
 }
@@ -80,8 +72,8 @@ count_kept {half} k before here h =
 -- what a reader knows, as far as words are judged by it
 abbrev pub known_of : {half : ℕ} → Reader half → Lines → Words → Known
 known_of k before here =
-    known_by k.names (measured_in before) (names_at is_output before here)
-    (known_at before here).signal (operand_at 0 has_operand here) (length k.commands.items)
+    known_by k.names (measured_in before) (names_at is_output before here) (first_signal here)
+    (second_signal here) (operand_at 0 has_operand here) (length k.commands.items)
 
 pub same_judge : {half : ℕ} (k : Reader half) (before : Lines) (here : Words) (p : Point)
     (word : List ℕ) → IsKept k before here → p ≡ point_of before here
@@ -107,7 +99,7 @@ pub word_kept : {half : ℕ} (k k' : Reader half) (before : Lines) (here : Words
     × IsKept k' before (here ++ word ∷ [])
 word_kept {half} k k' before here p word h e m =
     let listed = names_at is_output before here in
-    let clean = m.clean (measured_in before) listed (known_at before here).signal
+    let clean = m.clean (measured_in before) listed (first_signal here) (second_signal here)
     (operand_at 0 has_operand here) (stands_at k before here p h e) h.outputs in
     let more_names = added is_defining p word in
     let all_names = names_at-word is_defining before here p word e in

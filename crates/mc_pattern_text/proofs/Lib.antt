@@ -1,15 +1,13 @@
-pub mod Parts
 pub mod NamedCommands
 pub mod Printing
-pub mod RisingSets
 pub mod NamedSignals
 pub mod Marked
 pub mod Terms
+pub mod Sets
 pub mod Under
 pub mod Keeping
 pub mod LineOrder
 pub mod KeepingWord
-pub mod Sets
 pub mod Made
 pub mod KeepingLine
 pub mod Spelling
@@ -18,7 +16,6 @@ mod CleanCommands
 mod CleanLines
 mod CleanText
 mod ReadBack
-pub mod CleanSections
 pub mod GoodTerms
 pub mod MadeCommands
 pub mod SoundLines

@@ -1,6 +1,5 @@
 -- The pattern that lines make, with one more command.
 use Rattle.std.proofs.Common.{◌≡◌, ℕ, zero, suc, ◌*◌, ◌<◌, ◌-◌, ◌%◌, List, [], ◌∷◌, ◌++◌, Bool}
-use Rattle.std.proofs.Common.{true}
 use Rattle.std.proofs.Common.{false, ◌||◌, None, length, map, refl, sym, ap, ◌∙◌, arith}
 use Rattle.std.proofs.Common.{append_assoc, replicate, IsTrue}
 use Rattle.std.proofs.Common.{lt-ltb, ne_eqb}
@@ -67,9 +66,7 @@ made_inputs half constants names permitted valid =
     }
 
 neither : (a b : Bool) → a ≡ false → b ≡ false → (a || (b || false)) ≡ false
-neither false false e f = refl
-neither true b e f = absurd (cc e)
-neither false true e f = absurd (cc f)
+neither a b e f = grind arith
 
 plain_more : (cs : List Command) (c : Command) → list_any has_constant cs ≡ false
     → has_constant c ≡ false → list_any has_constant (cs ++ c ∷ []) ≡ false

@@ -1,18 +1,15 @@
 -- The canonical text, part by part.
 use Rattle.std.proofs.Common.{◌≡◌, ℕ, ◌<◌, zero, suc, List, [], ◌∷◌, ◌++◌, length, map, take}
-use Rattle.std.proofs.Common.{get_or, codes, refl, sym, subst, ap, ◌∙◌, append_assoc, arith, Some}
-use Rattle.std.proofs.Common.{◌+◌, Bool, ◌||◌, slice_get}
+use Rattle.std.proofs.Common.{get_or, codes, refl, sym, subst, ap, ◌∙◌, append_assoc, arith, Bool, ◌||◌}
 use Rattle.std.specs.List.{list_any}
-use Rattle.std.proofs.lemmas.List.{append-nil, map-append}
 use Rattle.std.proofs.lemmas.Grind.{flat_map-append}
-use Rattle.mc_write.specs.Text.{line_text, text_of, words_behind}
+use Rattle.mc_write.specs.Text.{line_text, text_of}
 use Rattle.mc_write.specs.Named.{name_at}
 use Rattle.mc_lex.specs.declared.kind.Kind.TheVariants as kind
 use Rattle.mc_model.specs.Pattern.{Command, Pattern, has_constant}
 use Rattle.mc_text.specs.Headers.{header_words}
 use Rattle.mc_pattern_text.specs.Canonical.{pattern_version, command_line, pattern_text}
 use Rattle.mc_pattern_text.specs.Written.{IsNamed, AreNamed}
-use Rattle.mc_pattern_text.proofs.Parts.{taken_more}
 
 -- one of a list of commands
 pub AreNamed-at : {A : Type 0} (f : A → Command) (n : ℕ) (xs : List A) (i : ℕ) (x : A) →
@@ -63,15 +60,3 @@ pub any_map : {A : Type 0} (f : A → Command) (xs : List A) →
     list_any has_constant (map f xs) ≡ list_any (λ x. has_constant (f x)) xs
 any_map f [] = refl
 any_map f (x ∷ xs) = ap (λ (b : Bool). has_constant (f x) || b) (any_map f xs)
-
-pub members_more : (start : List ℕ) (f : ℕ → List ℕ) (xs : List ℕ) (i x : ℕ) →
-    slice_get xs i ≡ Some x →
-    (start ++ words_behind (map f (take i xs))) ++ 32 ∷ f x
-    ≡ start ++ words_behind (map f (take (i + 1) xs))
-members_more start f xs i x e =
-    let next : i + 1 ≡ suc i = omega arith in
-    append_assoc start (words_behind (map f (take i xs))) (32 ∷ f x)
-    ∙ ap (λ (ws : List ℕ). start ++ ws)
-    (sym (rw (next, taken_more xs i x e, map-append f (take i xs) (x ∷ []))
-    (flat_map-append (λ (word : List ℕ). 32 ∷ word) (map f (take i xs)) (f x ∷ [])
-    ∙ rw (append-nil (f x)) refl)))

@@ -1,8 +1,7 @@
 -- The canonical text of a pattern is read without a fault, as that pattern.
-use Rattle.std.proofs.Common.{◌≡◌, ℕ, zero, suc, ◌+◌, ◌<◌, ◌≤◌, Bool, true, false, All, List, []}
+use Rattle.std.proofs.Common.{◌≡◌, ℕ, ◌+◌, ◌≤◌, Bool, true, false, List, []}
 use Rattle.std.proofs.Common.{◌∷◌, ◌++◌, length, map, take, codes, refl, sym, ap, ap₂, ◌∙◌}
 use Rattle.std.proofs.Common.{append_assoc, arith, Option, Some, None, IsTrue, if◌then◌else◌}
-use Rattle.std.proofs.Common.{◌==◌, ◌⊎◌, inl, inr}
 use Rattle.std.specs.Option.{option_map}
 use Rattle.std.specs.Fmt.{decimal}
 use Rattle.std.specs.List.{filter_map, flat_map, list_all, list_any}
@@ -13,7 +12,6 @@ use Rattle.std.proofs.lemmas.List.Folds.{list_all-append}
 use Rattle.std.proofs.lemmas.List.Sums.{list_all-from_AllPass}
 use Rattle.mc_lex.specs.declared.kind.Kind.TheVariants as kind
 use Rattle.mc_lex.specs.Lines.{lines_of, end_of}
-use Rattle.mc_write.specs.Text.{text_of}
 use Rattle.mc_write.specs.Named.{name_at}
 use Rattle.mc_angle.proofs.Numerals.{angle-decimal, number-decimal}
 use Rattle.mc_model.specs.Names.{Name, AreNames, is_name}
@@ -29,84 +27,71 @@ use Rattle.mc_text.specs.declared.head.Head.{Head}
 use Rattle.mc_text.specs.declared.point.Mark.{Mark}
 use Rattle.mc_text.specs.declared.point.Mark.TheVariants.{S, T}
 use Rattle.mc_text.specs.Points.{mark_of}
-use Rattle.mc_text.specs.Headers.{header_words, version_word, turn_words}
+use Rattle.mc_text.specs.Headers.{header_words}
 use Rattle.mc_text.specs.Judged.{Words, Lines, words_of, section_lines}
 use Rattle.mc_text.specs.Lists.{names_in, names_at}
 use Rattle.mc_text.proofs.Kept.{name_no_mark}
 use Rattle.mc_text.proofs.Clean.{IsRead, written_read}
-use Rattle.mc_text.proofs.Naming.{number-name_at, numbers-name_at, is_name-name_at, name_written}
+use Rattle.mc_text.proofs.Naming.{number-name_at, numbers-name_at, is_name-name_at}
 use Rattle.mc_text.proofs.Naming.{number_written}
+use Rattle.mc_text.proofs.FirstNames.{all_parts, at_written, each_written, names_written}
+use Rattle.mc_rows.proofs.Sound.{set_written}
+use Rattle.mc_text.proofs.HeadersBack.{header_line, known_version, permitted_half}
+use Rattle.mc_text.proofs.HeadersWritten.{header_written}
 use Rattle.mc_text.proofs.Written.{is_written, is_written_line}
 use Rattle.mc_pattern_text.specs.Roles.{is_defining, is_input, is_output}
-use Rattle.mc_pattern_text.specs.Value.{is_first, is_second, words_under, Spelled, spelled_m}
+use Rattle.mc_pattern_text.specs.Roles.{Role, opening, first_term, second_term, role_behind}
+use Rattle.mc_pattern_text.specs.Value.{first_of, second_of, first_signal, second_signal, signal_in}
+use Rattle.mc_pattern_text.specs.Value.{Spelled, spelled_m}
 use Rattle.mc_pattern_text.specs.Value.{spelled_command, spelled_commands, command_by, pattern_of}
 use Rattle.mc_pattern_text.specs.Judge.{pattern_rules}
 use Rattle.mc_pattern_text.specs.Written.{IsNamed, AreNamed}
-use Rattle.mc_pattern_text.specs.Canonical.{pattern_version, constant_words, signal_words, marked}
+use Rattle.mc_pattern_text.specs.Canonical.{pattern_version, signal_words, marked}
 use Rattle.mc_pattern_text.specs.Canonical.{command_line, pattern_lines, pattern_text}
 use Rattle.mc_pattern_text.specs.Canonical.{behind_header}
 use Rattle.mc_pattern_text.proofs.NamedCommands.{pattern_named}
-use Rattle.mc_pattern_text.proofs.NamedSignals.{names_written, words_back}
+use Rattle.mc_pattern_text.proofs.NamedSignals.{words_back}
 use Rattle.mc_pattern_text.proofs.CleanCommands.{IsAfter}
-use Rattle.mc_pattern_text.proofs.CleanLines.{AreUnmarked, signal_unmarked, under-append}
-use Rattle.mc_pattern_text.proofs.CleanLines.{two_under, decimal_no_mark}
+use Rattle.mc_pattern_text.proofs.CleanLines.{signal_unmarked, first_under, second_under}
+use Rattle.mc_pattern_text.proofs.CleanLines.{decimal_no_mark}
+use Rattle.mc_pattern_text.proofs.Under.{AreUnmarked, behind, behind-append, correction_behind}
+use Rattle.mc_pattern_text.proofs.Under.{last_unmarked, unmarked}
 use Rattle.mc_pattern_text.proofs.CleanText.{command_after, inputs_after, pattern_clean}
-use Rattle.mc_pattern_text.proofs.Parts.{and_both}
 
 -- the canonical lines can be written
-front_written : (m : ℕ) (ns : List Name) → list_all is_name ns ≡ true
-    → list_all is_written (take m ns) ≡ true
-front_written zero ns all = refl
-front_written (suc m) [] all = refl
-front_written (suc m) (n ∷ ns) all =
-    let both = and_both (is_name n) (list_all is_name ns) all in
-    rw (name_written n both.0, front_written m ns both.1) refl
-
-words_written : (ns : List Name) (qs : List ℕ) (b : Bool) → AreNames ns
-    → All (λ q. q < length ns) qs
-    → list_all is_written (map (name_at ns) qs ++ constant_words b) ≡ true
-words_written ns qs true valid below =
-    let names = names_written ns qs valid below in
-    list_all-append is_written (map (name_at ns) qs) (codes "!" ∷ []) ∙ rw names refl
-words_written ns qs false valid below =
-    rw (append-nil (map (name_at ns) qs)) (names_written ns qs valid below)
-
 marked_written : (mark : List ℕ) (words : Words) → is_written mark ≡ true
     → list_all is_written words ≡ true → list_all is_written (marked mark words) ≡ true
 marked_written mark [] written all = refl
 marked_written mark (word ∷ words) written all = rw (written, all) refl
 
-name_of : (ns : List Name) (q : ℕ) → AreNames ns → q < length ns → is_written (name_at ns q) ≡ true
-name_of ns q valid lt = name_written (name_at ns q) (is_name-name_at ns q valid lt)
-
 command_written : (half : ℕ) (ns : List Name) (c : Command) → AreNames ns
     → IsTrue (is_permitted half)
     → IsNamed (length ns) c → IsTyped half c → is_written_line (command_line ns c) ≡ true
 command_written half ns (Prep q) valid permitted named typed =
-    let first = name_of ns q valid named in rw first refl
+    let first = at_written ns q valid named in rw first refl
 command_written half ns (Ent q r) valid permitted named typed =
-    let first = name_of ns q valid named.0 in
-    let second = name_of ns r valid named.1 in
+    let first = at_written ns q valid named.0 in
+    let second = at_written ns r valid named.1 in
     rw (first, second) refl
 command_written half ns (Meas q a s t) valid permitted named typed =
-    let first = name_of ns q valid named.0 in
+    let first = at_written ns q valid named.0 in
     let few : half ≤ 8 = permitted_at_most half permitted in
     let turn = typed.0 in
     let number = number_written (decimal a) (number-decimal a (omega arith)).0 in
     let firsts = marked_written (codes "s:") (signal_words ns s) refl
-    (words_written ns s.members s.constant valid named.1) in
+    (set_written ns s.members s.constant valid named.1) in
     let seconds = marked_written (codes "t:") (signal_words ns t) refl
-    (words_written ns t.members t.constant valid named.2) in
+    (set_written ns t.members t.constant valid named.2) in
     let both = list_all-append is_written (marked (codes "s:") (signal_words ns s))
     (marked (codes "t:") (signal_words ns t)) in
     rw (first, number, both, firsts, seconds) refl
 command_written half ns (FixX q s) valid permitted named typed =
-    let first = name_of ns q valid named.0 in
-    let terms = words_written ns s.members s.constant valid named.1 in
+    let first = at_written ns q valid named.0 in
+    let terms = set_written ns s.members s.constant valid named.1 in
     rw (first, terms) refl
 command_written half ns (FixZ q s) valid permitted named typed =
-    let first = name_of ns q valid named.0 in
-    let terms = words_written ns s.members s.constant valid named.1 in
+    let first = at_written ns q valid named.0 in
+    let terms = set_written ns s.members s.constant valid named.1 in
     rw (first, terms) refl
 
 commands_written : (half : ℕ) (ns : List Name) (cs : List Command) → AreNames ns
@@ -118,37 +103,20 @@ commands_written half ns (c ∷ cs) valid permitted named typed =
     let rest = commands_written half ns cs valid permitted named.1 typed.1 in
     rw (first, rest) refl
 
-version_written : (b : Bool) → is_written (version_word (if b then 2 else 1)) ≡ true
-version_written true = refl
-version_written false = refl
-
-turn_written : (half : ℕ) → list_all is_written (turn_words half) ≡ true
-turn_written half = by_test (half == 8)
-  where
-    by_test : (t : Bool)
-        → list_all is_written (if t then codes "turn" ∷ codes "16" ∷ [] else []) ≡ true
-    by_test true = refl
-    by_test false = refl
-
-header_written : (half : ℕ) (p : Pattern)
-    → is_written_line (header_words kind.Pattern (pattern_version p) half) ≡ true
-header_written half p =
-    rw (version_written (list_any has_constant p.commands), turn_written half) refl
-
 pattern_written : (half : ℕ) (p : Pattern) → IsPattern half p → IsTrue (is_permitted half)
     → list_all is_written_line
     (header_words kind.Pattern (pattern_version p) half ∷ pattern_lines p) ≡ true
 pattern_written half p h permitted =
     let valid = h.valid.names in
-    let inputs = front_written p.inputs p.names
-    (list_all-from_AllPass is_name p.names valid.valid) in
+    let inputs = (all_parts is_written p.inputs p.names
+    (names_written p.names (list_all-from_AllPass is_name p.names valid.valid))).0 in
     let commands = commands_written half p.names p.commands valid permitted
     (pattern_named p h.valid) h.typed in
-    let outputs = names_written p.names p.outputs valid h.valid.outputs.below in
+    let outputs = each_written p.names p.outputs valid h.valid.outputs.below in
     let out = codes "out" ∷ map (name_at p.names) p.outputs in
     let end = (codes "end" ∷ []) ∷ [] in
     rw (
-      header_written half p,
+      header_written kind.Pattern (pattern_version p) half,
       inputs,
       list_all-append is_written_line (map (command_line p.names) p.commands) (out ∷ end),
       commands,
@@ -156,37 +124,39 @@ pattern_written half p h permitted =
     ) refl
 
 -- the commands that their lines spell
-if_both : (t : Bool) → let none : Words = [] in none ≡ (if t then none else none)
-if_both true = refl
-if_both false = refl
+if_none : (t : Bool) → let none : Words = [] in none ≡ (if t then none else none)
+if_none true = refl
+if_none false = refl
 
-s_under : (test : Option Mark → Bool) (mark : Option Mark) (words : Words) → AreUnmarked words
-    → words_under test mark (marked (codes "s:") words) ≡ (if test (Some S) then words else [])
-s_under test mark [] plain = if_both (test (Some S))
-s_under test mark (word ∷ words) plain = (plain (Some S)).1 test
+-- the terms of one signal, or of both, where `adds` picks those behind its mark
+module _ (adds : Role → List ℕ → Words) (s t : Bool)
+    (firsts : (w : List ℕ) → mark_of w ≡ None → adds first_term w ≡ (if s then w ∷ [] else []))
+    (seconds : (w : List ℕ) → mark_of w ≡ None → adds second_term w ≡ (if t then w ∷ [] else [])) where
+  t_behind : (mark : Option Mark) → adds (role_behind mark) (codes "t:") ≡ [] → (ts : Words)
+      → AreUnmarked ts → behind adds mark (marked (codes "t:") ts) ≡ (if t then ts else [])
+  t_behind mark none [] plain = if_none t
+  t_behind mark none (w ∷ ts) plain = rw none (unmarked adds (Some T) t seconds (w ∷ ts) plain)
 
-t_under : (test : Option Mark → Bool) (mark : Option Mark) (words : Words) → AreUnmarked words
-    → words_under test mark (marked (codes "t:") words) ≡ (if test (Some T) then words else [])
-t_under test mark [] plain = if_both (test (Some T))
-t_under test mark (word ∷ words) plain = (plain (Some T)).1 test
-
-both_under : (test : Option Mark → Bool) (w a : List ℕ) (ss ts : Words) → mark_of w ≡ None
-    → mark_of a ≡ None → AreUnmarked ss → AreUnmarked ts → test None ≡ false
-    → words_under test None (w ∷ a ∷ (marked (codes "s:") ss ++ marked (codes "t:") ts))
-    ≡ (if test (Some S) then ss else []) ++ (if test (Some T) then ts else [])
-both_under test w a ss ts no_w no_a first second none =
-    let firsts = marked (codes "s:") ss in
-    let seconds = marked (codes "t:") ts in
-    two_under false [] w a no_w no_a test (firsts ++ seconds) none
-    ∙ under-append test None firsts seconds
-    ∙ ap₂ (λ (xs ys : Words). xs ++ ys) (s_under test None ss first) (t_under test _ ts second)
+  both_behind : adds opening (codes "s:") ≡ [] → adds opening (codes "t:") ≡ []
+      → adds first_term (codes "t:") ≡ [] → (ss ts : Words) → AreUnmarked ss → AreUnmarked ts
+      → behind adds None (marked (codes "s:") ss ++ marked (codes "t:") ts)
+      ≡ (if s then ss else []) ++ (if t then ts else [])
+  both_behind a b c [] ts plain plain' =
+      t_behind None b ts plain'
+      ∙ ap (λ (xs : Words). xs ++ (if t then ts else [])) (if_none s)
+  both_behind a b c (w ∷ ss) ts plain plain' =
+      rw a
+      (behind-append adds (Some S) (w ∷ ss) (marked (codes "t:") ts)
+      ∙ ap₂ (λ (xs ys : Words). xs ++ ys) (unmarked adds (Some S) s firsts (w ∷ ss) plain)
+      (ap (λ (mark : Option Mark). behind adds mark (marked (codes "t:") ts))
+      (last_unmarked (Some S) (w ∷ ss) plain)
+      ∙ t_behind (Some S) c ts plain'))
 
 meas_back : (half : ℕ) (ns : List Name) (q a : ℕ) (s t : Signal) → AreNames ns
     → IsTrue (is_permitted half) → IsNamed (length ns) (Meas q a s t) → IsTyped half (Meas q a s t)
-    → (let words = name_at ns q ∷ decimal a
-    ∷ (marked (codes "s:") (signal_words ns s) ++ marked (codes "t:") (signal_words ns t)) in
-    command_by half ns (spelled_m (name_at ns q) (decimal a) (words_under is_first None words)
-    (words_under is_second None words)))
+    → (let line = command_line ns (Meas q a s t) in
+    command_by half ns (spelled_m (name_at ns q) (decimal a) (first_signal line)
+    (second_signal line)))
     ≡ Meas q a s t
 meas_back half ns q a s t valid permitted named typed =
     let w = name_at ns q in
@@ -194,11 +164,14 @@ meas_back half ns q a s t valid permitted named typed =
     let no_a = decimal_no_mark half a permitted typed.0 in
     let s_plain = signal_unmarked ns s.members s.constant valid named.1 in
     let t_plain = signal_unmarked ns t.members t.constant valid named.2 in
-    let first = both_under is_first w (decimal a) (signal_words ns s) (signal_words ns t) no_w no_a
-    s_plain t_plain refl
+    let words = marked (codes "s:") (signal_words ns s) ++ marked (codes "t:") (signal_words ns t) in
+    let first = first_under false [] w (decimal a) no_w no_a words
+    ∙ both_behind first_of true false (λ v free. rw free refl) (λ v free. refl) refl refl refl
+    (signal_words ns s) (signal_words ns t) s_plain t_plain
     ∙ append-nil (signal_words ns s) in
-    let second = both_under is_second w (decimal a) (signal_words ns s) (signal_words ns t) no_w
-    no_a s_plain t_plain refl in
+    let second = second_under false [] w (decimal a) no_w no_a words
+    ∙ both_behind second_of false true (λ v free. refl) (λ v free. refl) refl refl refl
+    (signal_words ns s) (signal_words ns t) s_plain t_plain in
     let number = number-name_at ns q valid.distinct named.0 in
     let angle = (angle-decimal half a permitted typed.0).1 in
     let s_back = words_back ns s valid typed.1 named.1 in
@@ -218,10 +191,12 @@ command_back half ns (Meas q a s t) valid permitted named typed =
     ap Some (meas_back half ns q a s t valid permitted named typed)
 command_back half ns (FixX q s) valid permitted named typed =
     ap₂ (λ k signal. Some (FixX k signal)) (number-name_at ns q valid.distinct named.0)
-    (words_back ns s valid typed named.1)
+    (ap (signal_in ns) (correction_behind (codes "x") (name_at ns q) (signal_words ns s) refl)
+    ∙ words_back ns s valid typed named.1)
 command_back half ns (FixZ q s) valid permitted named typed =
     ap₂ (λ k signal. Some (FixZ k signal)) (number-name_at ns q valid.distinct named.0)
-    (words_back ns s valid typed named.1)
+    (ap (signal_in ns) (correction_behind (codes "z") (name_at ns q) (signal_words ns s) refl)
+    ∙ words_back ns s valid typed named.1)
 
 command_more : (f : Spelled → Command) (o : Option Spelled) (c : Command) (ds : List Command)
     (lines : Lines) (here : Words) → spelled_command here ≡ o → option_map f o ≡ Some c
@@ -266,10 +241,7 @@ no_inputs : (ns : List Name) (cs : List Command)
     → flat_map (names_in is_input) (map (command_line ns) cs) ≡ []
 no_inputs ns [] = refl
 no_inputs ns (Prep q ∷ cs) = no_inputs ns cs
-no_inputs ns (Ent q r ∷ cs) = no_inputs ns cs
-no_inputs ns (Meas q a s t ∷ cs) = no_inputs ns cs
-no_inputs ns (FixX q s ∷ cs) = no_inputs ns cs
-no_inputs ns (FixZ q s ∷ cs) = no_inputs ns cs
+no_inputs ns (_ ∷ cs) = no_inputs ns cs
 
 names_of : (test : Option Head → Bool) (p : Pattern)
     → names_at test (pattern_lines p) []
@@ -342,21 +314,9 @@ same_text half p q h k permitted e =
     ∙ text_back half q k permitted
 
 -- the header
-first_words : (half : ℕ) (b : Bool) (lines : Lines) → (half ≡ 4) ⊎ (half ≡ 8)
-    → map (λ line. words_of line.items)
-    (take 1 (lines_of (text_of (header_words kind.Pattern (if b then 2 else 1) half ∷ lines))))
-    ≡ header_words kind.Pattern (if b then 2 else 1) half ∷ []
-first_words half true lines (inl e) = rw e refl
-first_words half true lines (inr e) = rw e refl
-first_words half false lines (inl e) = rw e refl
-first_words half false lines (inr e) = rw e refl
-
-four_or_eight : (half : ℕ) → IsTrue (is_permitted half) → (half ≡ 4) ⊎ (half ≡ 8)
-four_or_eight half permitted = grind arith
-
 pub header_back : (half : ℕ) (p : Pattern) → IsTrue (is_permitted half)
     → map (λ line. words_of line.items) (take 1 (lines_of (pattern_text half p)))
     ≡ header_words kind.Pattern (pattern_version p) half ∷ []
 header_back half p permitted =
-    first_words half (list_any has_constant p.commands) (pattern_lines p)
-    (four_or_eight half permitted)
+    header_line kind.Pattern (pattern_version p) half (pattern_lines p)
+    (known_version (list_any has_constant p.commands)) (permitted_half half permitted)

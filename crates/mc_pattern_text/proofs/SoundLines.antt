@@ -1,75 +1,66 @@
 -- Lines without a fault make a pattern.
-use Rattle.std.proofs.Common.{◌≡◌, ℕ, ◌<◌, List, [], ◌∷◌, ◌++◌, Bool, true, false, ◌||◌}
-use Rattle.std.proofs.Common.{Option, Some, None, length, map, fold, refl, sym, subst, ap, ◌∙◌}
-use Rattle.std.proofs.Common.{arith, append_assoc, IsTrue, ne_eqb, set, length-set, nat_le}
-use Rattle.std.proofs.Common.{length-append, ◌==◌, nat_eq}
+use Rattle.std.proofs.Common.{◌≡◌, ℕ, ◌<◌, List, [], ◌∷◌, ◌++◌, Bool, true, false, ◌||◌, ◌&&◌}
+use Rattle.std.proofs.Common.{Option, Some, None, length, refl, sym, subst, ap, ◌∙◌}
+use Rattle.std.proofs.Common.{arith, append_assoc, IsTrue, set, length-set, nat_le}
+use Rattle.std.proofs.Common.{nat_eq}
 use Rattle.std.proofs.Common.{not}
 use Rattle.std.specs.List.{list_all, list_any, IsDistinct}
-use Rattle.std.specs.Option.{option_or}
 use Rattle.std.specs.Cmp.Lexicographic.{nat_list_eq_equiv}
-use Rattle.std.proofs.lemmas.Bool.Decides.{nat_tests, Decides-eqb}
-use Rattle.std.proofs.lemmas.Slice.Eq.{slice_eq-Decides}
+use Rattle.std.proofs.lemmas.Bool.Decides.{nat_tests}
 use Rattle.std.proofs.lemmas.List.{append-nil}
-use Rattle.std.proofs.lemmas.List.Elements.{All-push, filter_map-append}
+use Rattle.std.proofs.lemmas.List.Elements.{filter_map-append}
 use Rattle.std.proofs.lemmas.List.Folds.{list_all-append, list_any-append}
 use Rattle.std.proofs.lemmas.Map.Keys.{IsDistinct-push}
 use Rattle.mc_model.specs.Bits.{Bits, bits_of}
 use Rattle.mc_model.specs.Names.{Name, AreNames, name_eq, is_name, is_held, place_of}
 use Rattle.mc_model.specs.Pattern.{Command, Ent, Meas, FixX, FixZ, measured_by}
-use Rattle.mc_model.specs.Numbers.{is_member}
-use Rattle.mc_model.specs.Signals.{IsRising}
 use Rattle.mc_angle.specs.Angle.{angle_of}
 use Rattle.mc_model.specs.Steps.{is_permitted}
 use Rattle.mc_text.specs.declared.head.Head.{Head}
 use Rattle.mc_text.specs.declared.head.Head.TheVariants.{In, N, E, M, X, Z, Out, End}
-use Rattle.mc_text.specs.declared.point.Mark.{Mark}
-use Rattle.mc_text.specs.declared.point.Mark.TheVariants.{Colon}
 use Rattle.mc_text.specs.Heads.{head_of}
-use Rattle.mc_text.specs.Points.{mark_of, point_of, last_head}
-use Rattle.mc_text.specs.Judged.{Judgement, Words, Lines}
-use Rattle.mc_text.specs.Rules.{number_in, new_name, or_next}
+use Rattle.mc_text.specs.Points.{point_of, last_head}
+use Rattle.mc_text.specs.Judged.{Words, Lines}
+use Rattle.mc_text.specs.declared.fault.Fault.TheVariants.{ListedTwice, Measured, NotFixed}
+use Rattle.mc_text.specs.declared.fault.Fault.TheVariants.{OutputsLack, SameOperand}
+use Rattle.mc_text.specs.Rules.{number_in, broken, passed, known_name, new_name}
 use Rattle.mc_text.specs.Lists.{names_at}
 use Rattle.mc_text.proofs.Clean.{CleanWords}
-use Rattle.mc_text.proofs.Kept.{count_at, names_at-line, number_in-more}
-use Rattle.mc_text.proofs.Kept.{operands_at-some, operands_at-none, name_no_mark}
+use Rattle.mc_text.proofs.Kept.{names_at-line, number_in-more}
+use Rattle.mc_text.proofs.Kept.{operands_at-some, operands_at-none}
 use Rattle.mc_text.proofs.Numbers.{place-held, place-same}
-use Rattle.mc_pattern.specs.Rules.{marked, first_rule, is_undone}
+use Rattle.mc_text.proofs.Unbroken.{known_is, names_push, next_none, not_false}
+use Rattle.mc_text.proofs.Unbroken.{unbroken, unpassed}
+use Rattle.mc_text.proofs.Members.{name_eq-same, place-below}
+use Rattle.mc_pattern.specs.Rules.{marked, is_undone}
 use Rattle.mc_pattern.proofs.Built.{marks_set}
-use Rattle.mc_pattern_text.specs.Roles.{may_follow, role_of, role_behind, is_defining, is_input}
-use Rattle.mc_pattern_text.specs.Roles.{is_output, is_measuring, is_correcting, is_command}
+use Rattle.mc_pattern_text.specs.Roles.{may_follow, role_of, is_defining, is_input}
+use Rattle.mc_pattern_text.specs.Roles.{is_output, is_measuring, is_command}
 use Rattle.mc_pattern_text.specs.Roles.{is_ending}
-use Rattle.mc_pattern_text.specs.Roles.{has_operand, role_in, operand, term, output}
-use Rattle.mc_pattern_text.specs.Value.{is_first, is_second, words_under, word_under, signal_in}
-use Rattle.mc_pattern_text.specs.Value.{Spelled, spelled_by, spelled_n, spelled_e, spelled_m}
+use Rattle.mc_pattern_text.specs.Roles.{has_operand, role_in, operand, output}
+use Rattle.mc_pattern_text.specs.Value.{first_signal, second_signal, signal_in}
+use Rattle.mc_pattern_text.specs.Value.{Spelled, spelled_n, spelled_e, spelled_m}
 use Rattle.mc_pattern_text.specs.Value.{spelled_x}
-use Rattle.mc_pattern_text.specs.Value.{spelled_z, spelled_command, spelled_commands, names_among}
-use Rattle.mc_pattern_text.specs.Judge.{Known, measured_in, known_at, rules_with, is_settled}
+use Rattle.mc_pattern_text.specs.Value.{spelled_z, spelled_command, spelled_commands}
+use Rattle.mc_pattern_text.specs.Judge.{measured_in, known_at, rules_with, is_settled}
 use Rattle.mc_pattern_text.specs.Judge.{still_name}
-use Rattle.mc_pattern_text.specs.Judge.{second_name, output_name, term_word, judge_by, lacks_by}
+use Rattle.mc_pattern_text.specs.Judge.{second_name, output_name, lacks_by}
 use Rattle.mc_pattern_text.specs.Kept.{AreMarked}
-use Rattle.mc_pattern_text.proofs.CleanLines.{correction_role, m_role}
-use Rattle.mc_pattern_text.proofs.CleanText.{role_at, names_here, names_stay}
-use Rattle.mc_pattern_text.proofs.GoodTerms.{AreGood, is_good, term_good, behind_good, good_held}
-use Rattle.mc_pattern_text.proofs.GoodTerms.{none_undone, signal_done, signal_stays, good_plain}
+use Rattle.mc_pattern_text.proofs.GoodTerms.{first_terms, second_terms}
 use Rattle.mc_pattern_text.proofs.Keeping.{marked-word}
 use Rattle.mc_pattern_text.proofs.MadeCommands.{IsMade, IsNext, made_inputs, made_prep, made_push}
 use Rattle.mc_pattern_text.proofs.MadeCommands.{no_names, angle_small, rule_one, rule_two}
 use Rattle.mc_pattern_text.proofs.KeepingLine.{replaced_or}
-use Rattle.mc_pattern_text.proofs.LineOrder.{is_closed, open_before, end_follows, none_follows}
-use Rattle.mc_pattern_text.proofs.LineOrder.{first_line, follows_by, room_by}
-use Rattle.mc_pattern_text.proofs.Marked.{marked-name, place-below}
-use Rattle.mc_pattern_text.proofs.Parts.{last_head-line}
-use Rattle.mc_pattern_text.proofs.RisingSets.{rising_where}
-use Rattle.mc_pattern_text.proofs.Under.{onto_mark, words_under-word, under_none}
+use Rattle.mc_pattern_text.proofs.LineOrder.{is_closed, open_before, end_follows, known_head}
+use Rattle.mc_pattern_text.proofs.LineOrder.{first_line}
+use Rattle.mc_pattern_text.proofs.Marked.{marked-name}
+use Rattle.mc_text.proofs.Done.{last_head-more}
+use Rattle.mc_text.proofs.NamesHere.{names_here, names_stay}
+use Rattle.mc_pattern_text.proofs.Under.{role_at}
 
 -- no name of a list is measured
 abbrev pub is_still : List Name → Name → Bool
 is_still measured name = not (is_held measured name)
-
-whole_by : (k : Known) (t : Bool) → list_all (is_settled k.measured k.listed) k.names ≡ t
-    → lacks_by k output ≡ None → t ≡ true
-whole_by k true e clean = refl
-whole_by k false e clean = let clean' = rw e at clean in absurd (cc clean')
 
 -- what is known of the outputs
 pub record AreOutputs (names done listed : List Name) : Type 0 where
@@ -104,25 +95,6 @@ sound_start half constants permitted = record {
 }
 
 -- names with nothing against them
-names_push : (names : List Name) (word : Name) → AreNames names → new_name names word ≡ None
-    → AreNames (names ++ word ∷ [])
-names_push names word h clean =
-    by_tests (is_name word) (is_held names word) (nat_le 256 (length names)) refl refl refl
-  where
-    by_tests : (n i f : Bool) → is_name word ≡ n → is_held names word ≡ i
-        → nat_le 256 (length names) ≡ f → AreNames (names ++ word ∷ [])
-    by_tests false i f a b c = let clean' = rw a at clean in absurd (cc clean')
-    by_tests true true f a b c = let clean' = rw (a, b) at clean in absurd (cc clean')
-    by_tests true false true a b c = let clean' = rw (a, b, c) at clean in absurd (cc clean')
-    by_tests true false false a b c =
-        let long = length-append names (word ∷ []) in
-        let room : length names < 256 = grind (arith, nat_tests) in
-        record {
-          distinct = IsDistinct-push nat_list_eq_equiv names word h.distinct b;
-          valid = All-push (λ (name : Name). IsTrue (is_name name)) names word h.valid a;
-          few = omega arith;
-        }
-
 inputs_named : (constants : Bool) (h : List ℕ) (ws ps : List Name) → head_of h ≡ Some In
     → AreNames ws → CleanWords (rules_with constants) [] (h ∷ ws) ps → AreNames (ws ++ ps)
 inputs_named constants h ws [] g valid clean = rw (append-nil ws) valid
@@ -137,25 +109,22 @@ record IsStillName (names done : List Name) (word : Name) : Type 0 where
   held : is_held names word ≡ true
   still : is_held done word ≡ false
 
-still_is : (names done : List Name) (word : Name) (n i m : Bool) → is_name word ≡ n
-    → is_held names word ≡ i → is_held done word ≡ m → still_name names done word ≡ None
+still_is : (names done : List Name) (word : Name) → still_name names done word ≡ None
     → IsStillName names done word
-still_is names done word false i m a b c clean = let clean' = rw a at clean in absurd (cc clean')
-still_is names done word true false m a b c clean =
-    let clean' = rw (a, b) at clean in absurd (cc clean')
-still_is names done word true true true a b c clean =
-    let clean' = rw (a, b, c) at clean in absurd (cc clean')
-still_is names done word true true false a b c clean = record { named = a; held = b; still = c }
-
--- what stands in front of a further rule has nothing against it either
-front_clean : (a b : Option Judgement) → or_next a b ≡ None → a ≡ None
-front_clean None b e = refl
-front_clean (Some judged) b e = absurd (cc e)
+still_is names done word clean =
+    let both = next_none (known_name names word) (broken ((is_held done word, Measured) ∷ [])) clean in
+    let known = known_is names word both.0 in
+    record {
+      named = known.0;
+      held = known.1;
+      still = (unbroken (is_held done word) Measured [] both.1).0;
+    }
 
 -- the qubit of such a name
 record IsLiveQubit (names : List Name) (marks : List Bool) (word : Name) : Type 0 where
   number : ℕ
   place : place_of names word ≡ Some number
+  is : (more : List Name) → number_in (names ++ more) word ≡ number
   below : number < length names
   live : bits_of marks number ≡ false
 
@@ -167,6 +136,7 @@ live_qubit names done marks word are is =
     record {
       number = place.0;
       place = place.1;
+      is = λ more. number_in-more names more word place.0 place.1;
       below = place-below names word place.0 place.1;
       live = marked-name names done (bits_of marks) word place.0 are place.1 ∙ is.still;
     }
@@ -176,12 +146,20 @@ other_number : (names : List Name) (a b : Name) (q r : ℕ) → place_of names a
 other_number names a b q r pa pb apart e =
     let pb' : place_of names b ≡ Some q = rw (← e) at pb in
     let same = place-same names a b q pa pb' in
-    let equal = (slice_eq-Decides Decides-eqb a b (name_eq a b) refl).1 same in
+    let equal = name_eq-same a b same in
     cc (equal, apart)
 
-rising_in : (names : List Name) (words : Words) → IsRising (signal_in names words).members
-rising_in names words =
-    rising_where (is_member (map (number_in names) (names_among words))) (length names)
+-- a record word of a command with operands
+operand_head : (hd : Option Head) → has_operand hd ≡ true
+    → (role_in hd 1 None ≡ operand) × (is_defining hd ≡ false) × (is_input hd ≡ false)
+    × (is_output hd ≡ false) × (is_ending hd ≡ false) × (is_closed hd ≡ false)
+    × (is_command hd ≡ true) × (hd ≡ None → ⊥)
+operand_head None e = absurd (cc e)
+operand_head (Some E) e = (refl, refl, refl, refl, refl, refl, refl, λ none. cc none)
+operand_head (Some M) e = (refl, refl, refl, refl, refl, refl, refl, λ none. cc none)
+operand_head (Some X) e = (refl, refl, refl, refl, refl, refl, refl, λ none. cc none)
+operand_head (Some Z) e = (refl, refl, refl, refl, refl, refl, refl, λ none. cc none)
+operand_head (Some _) e = absurd (cc e)
 
 module _ (half : ℕ) (constants : Bool) (before : Lines) (h : List ℕ)
     (sound : IsSound half constants before) where
@@ -202,7 +180,7 @@ module _ (half : ℕ) (constants : Bool) (before : Lines) (h : List ℕ)
       names_at-line is_output before here
       ∙ names_stay is_output before h words (rw g no_output)
       ∙ sound.unlisted (open_before (last_head before) hd order other) in
-      let last : last_head (before ++ here ∷ []) ≡ hd = last_head-line before here ∙ g in
+      let last : last_head (before ++ here ∷ []) ≡ hd = last_head-more before here ∙ g in
       record {
         made = rw (defined, names_at-line is_input before here, b, c, d) made;
         outputs = rw none
@@ -220,7 +198,8 @@ module _ (half : ℕ) (constants : Bool) (before : Lines) (h : List ℕ)
   -- a line of outputs, or one behind it
   closed_sound : (hd : Option Head) (words listed : Words) → head_of h ≡ hd
       → is_defining hd ≡ false → is_input hd ≡ false → is_measuring hd ≡ false
-      → spelled_by hd words ≡ None → (hd ≡ None → ⊥) → is_closed hd ≡ true
+      → spelled_command (h ∷ words) ≡ None
+      → (hd ≡ None → ⊥) → is_closed hd ≡ true
       → names_at is_output before (h ∷ words) ≡ listed
       → AreOutputs (names_at is_defining before []) (measured_in before) listed
       → list_all (is_settled (measured_in before) listed) (names_at is_defining before []) ≡ true
@@ -238,10 +217,10 @@ module _ (half : ℕ) (constants : Bool) (before : Lines) (h : List ℕ)
       operands_at-none 0 is_measuring before here (rw (g, no_measure) refl) in
       let spelled : spelled_commands (before ++ here ∷ []) ≡ spelled_commands before =
       filter_map-append spelled_command before (here ∷ [])
-      ∙ rw (g, no_command) (append-nil (spelled_commands before)) in
+      ∙ rw no_command (append-nil (spelled_commands before)) in
       let listed' : names_at is_output (before ++ here ∷ []) [] ≡ listed =
       names_at-line is_output before here ∙ outs in
-      let last : last_head (before ++ here ∷ []) ≡ hd = last_head-line before here ∙ g in
+      let last : last_head (before ++ here ∷ []) ≡ hd = last_head-more before here ∙ g in
       record {
         made = rw (defined, inputs, measured, spelled) sound.made;
         outputs = rw (defined, measured, listed') are;
@@ -251,76 +230,62 @@ module _ (half : ℕ) (constants : Bool) (before : Lines) (h : List ℕ)
         complete = λ e. rw (defined, measured, listed') all;
       }
 
+  -- the record word may stand there
+  record_is : (words : Words) → CleanWords (rules_with constants) before [] (h ∷ words)
+      → (may_follow (last_head before) (head_of h) ≡ true)
+      × ((is_command (head_of h) && nat_le 262144 (length (spelled_commands before))) ≡ false)
+  record_is words clean =
+      let order = may_follow (last_head before) (head_of h) in
+      let full = is_command (head_of h) && nat_le 262144 (length (spelled_commands before)) in
+      let both = next_none (broken ((not order, NotFixed) ∷ [])) (passed full 3 262145) clean.0 in
+      (not_false order (unbroken (not order) NotFixed [] both.0).0, unpassed full 3 262145 both.1)
+
+  follows : (words : Words) → CleanWords (rules_with constants) before [] (h ∷ words)
+      → may_follow (last_head before) (head_of h) ≡ true
+  follows words clean = (record_is words clean).0
+
+  room : (words : Words) → CleanWords (rules_with constants) before [] (h ∷ words)
+      → is_command (head_of h) ≡ true → length (spelled_commands before) < 262144
+  room words clean gate =
+      few (length (spelled_commands before)) (rw gate at ((record_is words clean).1))
+    where
+      few : (n : ℕ) → nat_le 262144 n ≡ false → n < 262144
+      few n e = grind (arith, nat_tests)
+
+  first_live : (a : Name) (rest : Words) → has_operand (head_of h) ≡ true
+      → CleanWords (rules_with constants) before (h ∷ []) (a ∷ rest)
+      → IsLiveQubit (names_at is_defining before []) sound.made.marks a
+  first_live a rest gate clean =
+      let names = names_at is_defining before [] in
+      let is = operand_head (head_of h) gate in
+      let clean' : still_name names (measured_in before) a ≡ None =
+      rw (is.0, names_stay is_defining before h [] is.1) at clean.0 in
+      live_qubit names (measured_in before) sound.made.marks a sound.made.measured
+      (still_is names (measured_in before) a clean')
+
   -- a command that prepares nothing
-  pushed_sound : (hd : Option Head) (words : Words) (one : Spelled) (c : Command)
-      (done : List Name) (marks : List Bool) → head_of h ≡ hd
-      → may_follow (last_head before) hd ≡ true → is_closed hd ≡ false → is_ending hd ≡ false
-      → is_output hd ≡ false → (hd ≡ None → ⊥) → is_defining hd ≡ false → is_input hd ≡ false
-      → spelled_by hd words ≡ Some one → length (spelled_commands before) < 262144
+  pushed_sound : (words : Words) (one : Spelled) (c : Command) (done : List Name)
+      (marks : List Bool) → has_operand (head_of h) ≡ true
+      → CleanWords (rules_with constants) before [] (h ∷ words)
+      → spelled_command (h ∷ words) ≡ Some one
       → measured_in (before ++ (h ∷ words) ∷ []) ≡ done
       → IsNext half constants (names_at is_defining before []) sound.made.marks one c
       → length marks ≡ length sound.made.marks
       → bits_of marks ≡ marked (bits_of sound.made.marks) (measured_by c)
       → AreMarked (names_at is_defining before []) done (bits_of marks)
       → IsSound half constants (before ++ (h ∷ words) ∷ [])
-  pushed_sound hd words one c done marks g order unclosed other no_output some no_name no_input line
-      room measured next long same are =
+  pushed_sound words one c done marks gate clean line measured next long same are =
+      let names = names_at is_defining before [] in
+      let inputs = names_at is_input before [] in
+      let is = operand_head (head_of h) gate in
       let spelled : spelled_commands (before ++ (h ∷ words) ∷ [])
       ≡ spelled_commands before ++ one ∷ [] =
-      filter_map-append spelled_command before ((h ∷ words) ∷ []) ∙ rw (g, line) refl in
-      open_sound hd words (names_at is_defining before []) (names_at is_input before []) done
-      (spelled_commands before ++ one ∷ []) g order unclosed other no_output some
-      (names_stay is_defining before h words (rw g no_name))
-      (names_stay is_input before h words (rw g no_input)) measured spelled
-      (made_push half constants (names_at is_defining before []) (names_at is_input before [])
-      (measured_in before) done (spelled_commands before) one c marks sound.made next room long same
-      are)
-
-  follows : (words : Words) → CleanWords (rules_with constants) before [] (h ∷ words)
-      → may_follow (last_head before) (head_of h) ≡ true
-  follows words clean =
-      follows_by (last_head before) h (length (spelled_commands before))
-      (may_follow (last_head before) (head_of h)) refl clean.0
-
-  room : (words : Words) → CleanWords (rules_with constants) before [] (h ∷ words)
-      → is_command (head_of h) ≡ true → length (spelled_commands before) < 262144
-  room words clean gate =
-      room_by (last_head before) h (length (spelled_commands before))
-      (nat_le 262144 (length (spelled_commands before))) (follows words clean) refl clean.0 gate
-
-  first_still : (a : Name) (rest : Words) → has_operand (head_of h) ≡ true
-      → CleanWords (rules_with constants) before (h ∷ []) (a ∷ rest)
-      → IsStillName (names_at is_defining before []) (measured_in before) a
-  first_still a rest gate clean =
-      let names = names_at is_defining before [] in
-      let role = operand_role (head_of h) gate in
-      let stay = names_stay is_defining before h [] (operand_defines_none (head_of h) gate) in
-      let clean' : still_name names (measured_in before) a ≡ None = rw (role, stay) at clean.0 in
-      still_is names (measured_in before) a (is_name a) (is_held names a)
-      (is_held (measured_in before) a) refl refl refl clean'
-    where
-      operand_role : (hd : Option Head) → has_operand hd ≡ true → role_in hd 1 None ≡ operand
-      operand_role None e = absurd (cc e)
-      operand_role (Some E) e = refl
-      operand_role (Some M) e = refl
-      operand_role (Some X) e = refl
-      operand_role (Some Z) e = refl
-      operand_role (Some _) e = absurd (cc e)
-
-      operand_defines_none : (hd : Option Head) → has_operand hd ≡ true → is_defining hd ≡ false
-      operand_defines_none None e = absurd (cc e)
-      operand_defines_none (Some E) e = refl
-      operand_defines_none (Some M) e = refl
-      operand_defines_none (Some X) e = refl
-      operand_defines_none (Some Z) e = refl
-      operand_defines_none (Some _) e = absurd (cc e)
-
-  first_live : (a : Name) (rest : Words) → has_operand (head_of h) ≡ true
-      → CleanWords (rules_with constants) before (h ∷ []) (a ∷ rest)
-      → IsLiveQubit (names_at is_defining before []) sound.made.marks a
-  first_live a rest gate clean =
-      live_qubit (names_at is_defining before []) (measured_in before) sound.made.marks a
-      sound.made.measured (first_still a rest gate clean)
+      filter_map-append spelled_command before ((h ∷ words) ∷ []) ∙ rw line refl in
+      open_sound (head_of h) words names inputs done (spelled_commands before ++ one ∷ []) refl
+      (follows words clean) is.5 is.4 is.3 is.7 (names_stay is_defining before h words is.1)
+      (names_stay is_input before h words is.2) measured spelled
+      (made_push half constants names inputs (measured_in before) done (spelled_commands before) one
+      c marks sound.made next (room words clean is.6) long same are)
 
   measured_other : (words : Words) → is_measuring (head_of h) ≡ false
       → measured_in (before ++ (h ∷ words) ∷ []) ≡ measured_in before
@@ -361,22 +326,16 @@ module _ (half : ℕ) (constants : Bool) (before : Lines) (h : List ℕ)
       let names = names_at is_defining before [] in
       let done = measured_in before in
       let marks = sound.made.marks in
-      let order : may_follow (last_head before) (Some E) ≡ true =
-      rw (← g) (follows (a ∷ b ∷ []) clean) in
       let first = first_live a (b ∷ []) (rw g refl) clean.1 in
       let second : second_name names done (Some a) b ≡ None = rw g at clean.1.1.0 in
-      let still = still_is names done b (is_name b) (is_held names b) (is_held done b) refl refl
-      refl (front_clean (still_name names done b) _ second) in
-      let other = live_qubit names done marks b sound.made.measured still in
-      let apart = other_name still second in
-      pushed_sound (Some E) (a ∷ b ∷ []) (spelled_e a b) (Ent first.number other.number) done marks
-      g order refl refl refl (λ e. cc e) refl refl refl (room (a ∷ b ∷ []) clean (rw g refl))
-      (measured_other (a ∷ b ∷ []) (rw g refl)) (record {
-        is = λ more.
-            rw (
-              number_in-more names more a first.number first.place,
-              number_in-more names more b other.number other.place,
-            ) refl;
+      let both = next_none (still_name names done b) (broken ((name_eq a b, SameOperand) ∷ []))
+      second in
+      let other = live_qubit names done marks b sound.made.measured
+      (still_is names done b both.0) in
+      let apart = (unbroken (name_eq a b) SameOperand [] both.1).0 in
+      pushed_sound (a ∷ b ∷ []) (spelled_e a b) (Ent first.number other.number) done marks
+      (rw g refl) clean (rw g refl) (measured_other (a ∷ b ∷ []) (rw g refl)) (record {
+        is = λ more. rw (first.is more, other.is more) refl;
         no_prep = refl;
         typed = tt;
         rule = rule_two (length names) (bits_of marks) first.number other.number first.below
@@ -385,91 +344,6 @@ module _ (half : ℕ) (constants : Bool) (before : Lines) (h : List ℕ)
         plain = λ none. refl;
       })
       refl refl sound.made.measured
-    where
-      other_name : IsStillName (names_at is_defining before []) (measured_in before) b
-          → second_name (names_at is_defining before []) (measured_in before) (Some a) b ≡ None
-          → name_eq a b ≡ false
-      other_name still second = by_test (name_eq a b) refl
-        where
-          by_test : (t : Bool) → name_eq a b ≡ t → t ≡ false
-          by_test false e = refl
-          by_test true e =
-              let second' = rw (still.named, still.held, still.still, e) at second in
-              absurd (cc second')
-
-  -- the terms of a measurement's signals, and of a correction's
-  under_terms : (test : Option Mark → Bool) (a b : Name) (xs rest : Words) → test None ≡ false
-      → test (Some Colon) ≡ false → head_of h ≡ Some M
-      → AreGood constants (names_at is_defining before []) (measured_in before)
-      (words_under test None (a ∷ b ∷ xs))
-      → CleanWords (rules_with constants) before (h ∷ a ∷ b ∷ xs) rest
-      → AreGood constants (names_at is_defining before []) (measured_in before)
-      (words_under test None (a ∷ b ∷ (xs ++ rest)))
-  under_terms test a b xs [] none colon g good clean = rw (append-nil xs) good
-  under_terms test a b xs (r ∷ rest) none colon g good clean =
-      let here = h ∷ a ∷ b ∷ xs in
-      let k = known_at before here in
-      let names = names_at is_defining before [] in
-      let stay = names_stay is_defining before h (a ∷ b ∷ xs) (rw g refl) in
-      let clean' : judge_by constants k (point_of before here).last
-      (role_behind (fold onto_mark None (a ∷ b ∷ xs))) r ≡ None =
-      rw (m_role before h a b xs g) at clean.0 in
-      let one = behind_good constants test k (point_of before here).last
-      (fold onto_mark None (a ∷ b ∷ xs)) r none colon clean' in
-      let one' : AreGood constants names (measured_in before)
-      (word_under test (fold onto_mark None (a ∷ b ∷ xs)) r) = rw stay at one in
-      let all : AreGood constants names (measured_in before)
-      (words_under test None (a ∷ b ∷ (xs ++ r ∷ []))) =
-      rw (
-        words_under-word test None (a ∷ b ∷ xs) r,
-        list_all-append (is_good constants names (measured_in before))
-            (words_under test None (a ∷ b ∷ xs))
-            (word_under test (fold onto_mark None (a ∷ b ∷ xs)) r),
-        good,
-        one',
-      ) refl in
-      rw (← append_assoc xs (r ∷ []) rest)
-      (under_terms test a b (xs ++ r ∷ []) rest none colon g all clean.1)
-
-  correction_terms : (a : Name) (xs rest : Words) → is_correcting (head_of h) ≡ true
-      → AreGood constants (names_at is_defining before []) (measured_in before) xs
-      → CleanWords (rules_with constants) before (h ∷ a ∷ xs) rest
-      → AreGood constants (names_at is_defining before []) (measured_in before) (xs ++ rest)
-  correction_terms a xs [] gate good clean = rw (append-nil xs) good
-  correction_terms a xs (r ∷ rest) gate good clean =
-      let here = h ∷ a ∷ xs in
-      let p = point_of before here in
-      let k = known_at before here in
-      let names = names_at is_defining before [] in
-      let count = count_at before here in
-      let many = ne_eqb p.count 1 (λ one. omega arith) in
-      let role : role_of p ≡ term =
-      correction_role before h a xs ∙ term_role (head_of h) p.count p.mark gate many in
-      let stay = names_stay is_defining before h (a ∷ xs) (no_name (head_of h) gate) in
-      let clean' : term_word constants k.names k.measured k.signal r ≡ None = rw role at clean.0 in
-      let one = term_good constants k.names k.measured k.signal r clean' in
-      let one' : is_good constants names (measured_in before) r ≡ true = rw stay at one in
-      let all : AreGood constants names (measured_in before) (xs ++ r ∷ []) =
-      rw (
-        list_all-append (is_good constants names (measured_in before)) xs (r ∷ []),
-        good,
-        one',
-      ) refl in
-      rw (← append_assoc xs (r ∷ []) rest)
-      (correction_terms a (xs ++ r ∷ []) rest gate all clean.1)
-    where
-      term_role : (hd : Option Head) (n : ℕ) (mark : Option Mark) → is_correcting hd ≡ true
-          → (n == 1) ≡ false → role_in hd n mark ≡ term
-      term_role None n mark e f = absurd (cc e)
-      term_role (Some X) n mark e f = rw f refl
-      term_role (Some Z) n mark e f = rw f refl
-      term_role (Some _) n mark e f = absurd (cc e)
-
-      no_name : (hd : Option Head) → is_correcting hd ≡ true → is_defining hd ≡ false
-      no_name None e = absurd (cc e)
-      no_name (Some X) e = refl
-      no_name (Some Z) e = refl
-      no_name (Some _) e = absurd (cc e)
 
   measured_sound : (words : Words) → head_of h ≡ Some M
       → CleanWords (rules_with constants) before [] (h ∷ words)
@@ -482,57 +356,37 @@ module _ (half : ℕ) (constants : Bool) (before : Lines) (h : List ℕ)
       let made = sound.made in
       let marks = made.marks in
       let words = a ∷ b ∷ rest in
-      let order : may_follow (last_head before) (Some M) ≡ true = rw (← g) (follows words clean) in
       let first = first_live a (b ∷ rest) (rw g refl) clean.1 in
-      let still = first_still a (b ∷ rest) (rw g refl) clean.1 in
-      let ss = words_under is_first None words in
-      let ts = words_under is_second None words in
-      let s_good = under_terms is_first a b [] rest refl refl g
-      (front_good is_first refl (name_no_mark a still.named)) clean.1.1.1 in
-      let t_good = under_terms is_second a b [] rest refl refl g
-      (front_good is_second refl (name_no_mark a still.named)) clean.1.1.1 in
-      let s_held = good_held constants names done ss s_good in
-      let t_held = good_held constants names done ts t_good in
-      let s_done = none_undone (bits_of marks) (signal_in names ss)
-      (signal_done constants names done (bits_of marks) ss made.measured s_good) in
-      let t_done = none_undone (bits_of marks) (signal_in names ts)
-      (signal_done constants names done (bits_of marks) ts made.measured t_good) in
+      let ss = first_signal (h ∷ words) in
+      let ts = second_signal (h ∷ words) in
+      let s = first_terms constants before h words (bits_of marks) made.measured (rw g refl) clean.1 in
+      let t = second_terms constants before h words (bits_of marks) made.measured (rw g refl)
+      clean.1 in
       let members : list_any (is_undone (bits_of marks))
       ((signal_in names ss).members ++ (signal_in names ts).members) ≡ false =
       rw (
         list_any-append (is_undone (bits_of marks)) (signal_in names ss).members
             (signal_in names ts).members,
-        s_done,
-        t_done,
+        s.done,
+        t.done,
       ) refl in
       let few = made.built.begun.names.few in
       let below = first.below in
       let long : first.number < length marks = rw made.built.long (omega arith) in
       let bits = marks_set marks first.number long in
-      pushed_sound (Some M) words (spelled_m a b ss ts)
+      pushed_sound words (spelled_m a b ss ts)
       (Meas first.number (angle_of half b) (signal_in names ss) (signal_in names ts))
-      (done ++ a ∷ []) (set marks first.number true) g order refl refl refl (λ e. cc e) refl refl
-      refl (room words clean (rw g refl))
+      (done ++ a ∷ []) (set marks first.number true) (rw g refl) clean (rw g refl)
       (operands_at-some 0 is_measuring before (h ∷ words) a (rw g refl)) (record {
-        is = λ more.
-            rw (
-              number_in-more names more a first.number first.place,
-              signal_stays names more ss s_held,
-              signal_stays names more ts t_held,
-            ) refl;
+        is = λ more. rw (first.is more, s.stays more, t.stays more) refl;
         no_prep = refl;
-        typed = (
-          angle_small half b made.built.begun.permitted,
-          rising_in names ss,
-          rising_in names ts,
-        );
+        typed = (angle_small half b made.built.begun.permitted, s.rising, t.rising);
         rule = rule_one (length names) (bits_of marks) first.number
             ((signal_in names ss).members ++ (signal_in names ts).members) first.below first.live
             members;
         plain = λ none.
-            both_plain (signal_in names ss).constant (signal_in names ts).constant
-            (good_plain constants names done ss none s_good)
-            (good_plain constants names done ts none t_good);
+            both_plain (signal_in names ss).constant (signal_in names ts).constant (s.plain none)
+            (t.plain none);
       })
       (length-set marks first.number true) bits
       (marked-word names done (bits_of marks) (bits_of (set marks first.number true)) a first.number
@@ -540,55 +394,8 @@ module _ (half : ℕ) (constants : Bool) (before : Lines) (h : List ℕ)
       (λ r. ap (λ (f : Bits). f r) bits
       ∙ replaced_or (bits_of marks) first.number r (nat_eq r first.number) refl))
     where
-      front_good : (test : Option Mark → Bool) → test None ≡ false → mark_of a ≡ None
-          → AreGood constants (names_at is_defining before []) (measured_in before)
-          (words_under test None (a ∷ b ∷ []))
-      front_good test none no_mark =
-          let first : word_under test None a ≡ [] = under_none test a none in
-          let second : word_under test (option_or (mark_of a) None) b ≡ [] =
-          rw no_mark (under_none test b none) in
-          rw (first, second) refl
-
       both_plain : (x y : Bool) → x ≡ false → y ≡ false → (x || y) ≡ false
-      both_plain false y e f = f
-      both_plain true y e f = absurd (cc e)
-
-  -- what a correction needs
-  record IsCorrected (a : Name) (words : Words) : Type 0 where
-    qubit : IsLiveQubit (names_at is_defining before []) sound.made.marks a
-    number : (more : List Name)
-        → number_in (names_at is_defining before [] ++ more) a ≡ qubit.number
-    signal : (more : List Name) → signal_in (names_at is_defining before [] ++ more) words
-        ≡ signal_in (names_at is_defining before []) words
-    rule : first_rule (length (names_at is_defining before [])) (bits_of sound.made.marks)
-        (qubit.number ∷ []) false (signal_in (names_at is_defining before []) words).members ≡ None
-    plain : constants ≡ false
-        → (signal_in (names_at is_defining before []) words).constant ≡ false
-
-  corrected : (a : Name) (rest : Words) → is_correcting (head_of h) ≡ true
-      → CleanWords (rules_with constants) before (h ∷ []) (a ∷ rest) → IsCorrected a rest
-  corrected a rest gate clean =
-      let names = names_at is_defining before [] in
-      let done = measured_in before in
-      let marks = sound.made.marks in
-      let first = first_live a rest (has_one (head_of h) gate) clean in
-      let good = correction_terms a [] rest gate refl clean.1 in
-      let members = none_undone (bits_of marks) (signal_in names rest)
-      (signal_done constants names done (bits_of marks) rest sound.made.measured good) in
-      record {
-        qubit = first;
-        number = λ more. number_in-more names more a first.number first.place;
-        signal = λ more. signal_stays names more rest (good_held constants names done rest good);
-        rule = rule_one (length names) (bits_of marks) first.number (signal_in names rest).members
-            first.below first.live members;
-        plain = λ none. good_plain constants names done rest none good;
-      }
-    where
-      has_one : (hd : Option Head) → is_correcting hd ≡ true → has_operand hd ≡ true
-      has_one None e = absurd (cc e)
-      has_one (Some X) e = refl
-      has_one (Some Z) e = refl
-      has_one (Some _) e = absurd (cc e)
+      both_plain x y e f = grind arith
 
   x_sound : (words : Words) → head_of h ≡ Some X
       → CleanWords (rules_with constants) before [] (h ∷ words)
@@ -596,18 +403,20 @@ module _ (half : ℕ) (constants : Bool) (before : Lines) (h : List ℕ)
   x_sound [] g clean = let clean' = rw g at clean.1 in absurd (cc clean')
   x_sound (a ∷ rest) g clean =
       let names = names_at is_defining before [] in
-      let order : may_follow (last_head before) (Some X) ≡ true =
-      rw (← g) (follows (a ∷ rest) clean) in
-      let next = corrected a rest (rw g refl) clean.1 in
-      pushed_sound (Some X) (a ∷ rest) (spelled_x a rest)
-      (FixX next.qubit.number (signal_in names rest)) (measured_in before) sound.made.marks g order
-      refl refl refl (λ e. cc e) refl refl refl (room (a ∷ rest) clean (rw g refl))
+      let marks = sound.made.marks in
+      let first = first_live a rest (rw g refl) clean.1 in
+      let words = first_signal (h ∷ a ∷ rest) in
+      let s = first_terms constants before h (a ∷ rest) (bits_of marks) sound.made.measured
+      (rw g refl) clean.1 in
+      pushed_sound (a ∷ rest) (spelled_x a words) (FixX first.number (signal_in names words))
+      (measured_in before) marks (rw g refl) clean (rw g refl)
       (measured_other (a ∷ rest) (rw g refl)) (record {
-        is = λ more. rw (next.number more, next.signal more) refl;
+        is = λ more. rw (first.is more, s.stays more) refl;
         no_prep = refl;
-        typed = rising_in names rest;
-        rule = next.rule;
-        plain = next.plain;
+        typed = s.rising;
+        rule = rule_one (length names) (bits_of marks) first.number (signal_in names words).members
+            first.below first.live s.done;
+        plain = s.plain;
       })
       refl refl sound.made.measured
 
@@ -617,18 +426,20 @@ module _ (half : ℕ) (constants : Bool) (before : Lines) (h : List ℕ)
   z_sound [] g clean = let clean' = rw g at clean.1 in absurd (cc clean')
   z_sound (a ∷ rest) g clean =
       let names = names_at is_defining before [] in
-      let order : may_follow (last_head before) (Some Z) ≡ true =
-      rw (← g) (follows (a ∷ rest) clean) in
-      let next = corrected a rest (rw g refl) clean.1 in
-      pushed_sound (Some Z) (a ∷ rest) (spelled_z a rest)
-      (FixZ next.qubit.number (signal_in names rest)) (measured_in before) sound.made.marks g order
-      refl refl refl (λ e. cc e) refl refl refl (room (a ∷ rest) clean (rw g refl))
+      let marks = sound.made.marks in
+      let first = first_live a rest (rw g refl) clean.1 in
+      let words = first_signal (h ∷ a ∷ rest) in
+      let s = first_terms constants before h (a ∷ rest) (bits_of marks) sound.made.measured
+      (rw g refl) clean.1 in
+      pushed_sound (a ∷ rest) (spelled_z a words) (FixZ first.number (signal_in names words))
+      (measured_in before) marks (rw g refl) clean (rw g refl)
       (measured_other (a ∷ rest) (rw g refl)) (record {
-        is = λ more. rw (next.number more, next.signal more) refl;
+        is = λ more. rw (first.is more, s.stays more) refl;
         no_prep = refl;
-        typed = rising_in names rest;
-        rule = next.rule;
-        plain = next.plain;
+        typed = s.rising;
+        rule = rule_one (length names) (bits_of marks) first.number (signal_in names words).members
+            first.below first.live s.done;
+        plain = s.plain;
       })
       refl refl sound.made.measured
 
@@ -661,7 +472,8 @@ module _ (half : ℕ) (constants : Bool) (before : Lines) (h : List ℕ)
       let role : role_of (point_of before (h ∷ listed)) ≡ output =
       role_at before h listed ∙ rw g refl in
       let clean' : lacks_by k output ≡ None = rw role at clean in
-      let all = whole_by k (list_all (is_settled k.measured k.listed) k.names) refl clean' in
+      let settled = list_all (is_settled k.measured k.listed) k.names in
+      let all = not_false settled (unbroken (not settled) OutputsLack [] clean').0 in
       let outs = listed_here listed g none in
       let stay = names_stay is_defining before h listed (rw g refl) in
       let all' : list_all (is_settled (measured_in before) listed) names ≡ true =
@@ -677,22 +489,16 @@ module _ (half : ℕ) (constants : Bool) (before : Lines) (h : List ℕ)
       let outs = listed_here listed g none in
       let stay = names_stay is_defining before h listed (rw g refl) in
       let due : output_name names done listed r ≡ None = rw (outs, stay) at clean' in
-      let still = still_is names done r (is_name r) (is_held names r) (is_held done r) refl refl
-      refl (front_clean (still_name names done r) _ due) in
-      let new = new_here names done listed r still due (is_held listed r) refl in
+      let both = next_none (still_name names done r) (broken ((is_held listed r, ListedTwice) ∷ []))
+      due in
+      let still = still_is names done r both.0 in
+      let new = (unbroken (is_held listed r) ListedTwice [] both.1).0 in
       rw (← append_assoc listed (r ∷ []) rest)
       (listed_sound (listed ++ r ∷ []) rest g none (record {
         held = list_all-append (is_held names) listed (r ∷ []) ∙ rw (are.held, still.held) refl;
         distinct = IsDistinct-push nat_list_eq_equiv listed r are.distinct new;
         still = list_all-append (is_still done) listed (r ∷ []) ∙ rw (are.still, still.still) refl;
       }) clean.1)
-    where
-      new_here : (names done listed : List Name) (r : Name) → IsStillName names done r
-          → output_name names done listed r ≡ None → (t : Bool) → is_held listed r ≡ t
-          → is_held listed r ≡ false
-      new_here names done listed r still due false e = e
-      new_here names done listed r still due true e =
-          let due' = rw (still.named, still.held, still.still, e) at due in absurd (cc due')
 
   outputs_sound : (words : Words) → head_of h ≡ Some Out
       → CleanWords (rules_with constants) before [] (h ∷ words)
@@ -703,9 +509,7 @@ module _ (half : ℕ) (constants : Bool) (before : Lines) (h : List ℕ)
       let none = sound.unlisted (open_before (last_head before) (Some Out) order refl) in
       let both = listed_sound [] words g none
       (no_outputs (names_at is_defining before []) (measured_in before)) clean.1 in
-      let last : last_head (before ++ (h ∷ words) ∷ []) ≡ Some Out =
-      last_head-line before (h ∷ words) ∙ g in
-      closed_sound (Some Out) words words g refl refl refl refl (λ e. cc e) refl
+      closed_sound (Some Out) words words g refl refl refl (rw g refl) (λ e. cc e) refl
       (listed_here words g none) both.0 both.1
 
   ended_sound : (words : Words) → head_of h ≡ Some End
@@ -714,7 +518,7 @@ module _ (half : ℕ) (constants : Bool) (before : Lines) (h : List ℕ)
   ended_sound (a ∷ rest) g clean = let clean' = rw g at clean.1.0 in absurd (cc clean')
   ended_sound [] g clean =
       let order : may_follow (last_head before) (Some End) ≡ true = rw (← g) (follows [] clean) in
-      closed_sound (Some End) [] (names_at is_output before []) g refl refl refl refl (λ e. cc e)
+      closed_sound (Some End) [] (names_at is_output before []) g refl refl refl (rw g refl) (λ e. cc e)
       refl (names_stay is_output before h [] (rw g refl)) sound.outputs
       (sound.complete (end_follows (last_head before) order))
 
@@ -722,8 +526,9 @@ module _ (half : ℕ) (constants : Bool) (before : Lines) (h : List ℕ)
       → CleanWords (rules_with constants) before [] (h ∷ words)
       → IsSound half constants (before ++ (h ∷ words) ∷ [])
   line_sound words None g clean =
-      let order = ap (may_follow (last_head before)) (sym g) ∙ follows words clean in
-      absurd (none_follows (last_head before) order)
+      let known = known_head (last_head before) (head_of h) (follows words clean) in
+      let known' = rw g at known in
+      absurd (cc known')
   line_sound words (Some In) g clean =
       let order : may_follow (last_head before) (Some In) ≡ true = rw (← g) (follows words clean) in
       first_sound words g (sound.start (first_line (last_head before) order)) clean
@@ -735,20 +540,9 @@ module _ (half : ℕ) (constants : Bool) (before : Lines) (h : List ℕ)
   line_sound words (Some Out) g clean = outputs_sound words g clean
   line_sound words (Some End) g clean = ended_sound words g clean
   line_sound words (Some other) g clean =
-      let order : may_follow (last_head before) (Some other) ≡ true =
-      rw (← g) (follows words clean) in
-      absurd (other_follows (last_head before) order)
-    where
-      other_follows : (last : Option Head) → may_follow last (Some other) ≡ true → ⊥
-      other_follows None e = cc e
-      other_follows (Some In) e = cc e
-      other_follows (Some N) e = cc e
-      other_follows (Some E) e = cc e
-      other_follows (Some M) e = cc e
-      other_follows (Some X) e = cc e
-      other_follows (Some Z) e = cc e
-      other_follows (Some Out) e = cc e
-      other_follows (Some _) e = cc e
+      let known = known_head (last_head before) (head_of h) (follows words clean) in
+      let known' = rw g at known in
+      absurd (cc known')
 
 pub sound_line : (half : ℕ) (constants : Bool) (before : Lines) (here : Words)
     → IsSound half constants before → CleanWords (rules_with constants) before [] here

@@ -27,7 +27,7 @@ use Rattle.mc_pattern.specs.Patterns.{IsPattern}
 use Rattle.mc_pattern_text.specs.Roles.{is_defining, is_output}
 use Rattle.mc_pattern_text.specs.Value.{command_by, spelled_commands, pattern_of}
 use Rattle.mc_pattern_text.specs.Judge.{measured_in, is_settled, rules_with}
-use Rattle.mc_pattern_text.proofs.CleanSections.{behind_clean}
+use Rattle.mc_text.proofs.Behind.{behind_clean}
 use Rattle.mc_pattern_text.proofs.Marked.{marked-name}
 use Rattle.mc_pattern_text.proofs.SoundLines.{IsSound, is_still, sound_start, sound_line}
 

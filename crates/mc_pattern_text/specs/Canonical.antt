@@ -1,5 +1,5 @@
 -- The canonical text of a pattern.
-use Rattle.std.specs.Prelude.{ℕ, List, [], ◌∷◌, ◌++◌, Bool, true, false, map, codes, take, drop}
+use Rattle.std.specs.Prelude.{ℕ, List, [], ◌∷◌, ◌++◌, map, codes, take, drop}
 use Rattle.std.specs.Prelude.{if◌then◌else◌}
 use Rattle.std.specs.List.{list_any}
 use Rattle.std.specs.Fmt.{decimal}
@@ -11,18 +11,15 @@ use Rattle.mc_model.specs.Names.{Name}
 use Rattle.mc_model.specs.Signals.{Signal}
 use Rattle.mc_model.specs.Pattern.{Command, Prep, Ent, Meas, FixX, FixZ, Pattern, has_constant}
 use Rattle.mc_text.specs.Headers.{header_words}
+use Rattle.mc_rows.specs.Written.{set_words}
 
 -- a constant asks for the second version
 abbrev pub pattern_version : Pattern → ℕ
 pattern_version p = if list_any has_constant p.commands then 2 else 1
 
-abbrev pub constant_words : Bool → Line
-constant_words true = codes "!" ∷ []
-constant_words false = []
-
 -- the members by rising number, and `!` behind them where the signal has the constant
 abbrev pub signal_words : List Name → Signal → Line
-signal_words names s = map (name_at names) s.members ++ constant_words s.constant
+signal_words names s = set_words names s.members s.constant
 
 -- words behind their mark, where there are any
 abbrev pub marked : List ℕ → Line → Line

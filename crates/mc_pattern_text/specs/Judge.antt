@@ -1,5 +1,5 @@
 -- The rules and limits of a pattern's section.
-use Rattle.std.specs.Prelude.{ℕ, List, [], ◌∷◌, ◌++◌, drop, Bool, true, false, not, ◌&&◌, ◌||◌}
+use Rattle.std.specs.Prelude.{ℕ, List, [], ◌∷◌, Bool, true, false, not, ◌&&◌, ◌||◌}
 use Rattle.std.specs.Prelude.{◌==◌}
 use Rattle.std.specs.Prelude.{nat_le, length, if◌then◌else◌, Option, None, Some, suc}
 use Rattle.std.specs.List.{list_all}
@@ -9,45 +9,35 @@ use Rattle.mc_text.specs.declared.head.Head.{Head}
 use Rattle.mc_text.specs.declared.fault.Fault.TheVariants.{NotFixed, LineEnds, Surplus, Measured}
 use Rattle.mc_text.specs.declared.fault.Fault.TheVariants.{SameOperand, NotMeasured, ListedTwice}
 use Rattle.mc_text.specs.declared.fault.Fault.TheVariants.{OutputsLack}
-use Rattle.mc_text.specs.declared.point.Point.{Point}
 use Rattle.mc_text.specs.Heads.{head_of}
 use Rattle.mc_text.specs.Points.{mark_of, point_of}
 use Rattle.mc_text.specs.Judged.{Judgement, Words, Lines, Rules}
 use Rattle.mc_text.specs.Rules.{broken, passed, or_next, new_name, known_name, listed_name}
 use Rattle.mc_text.specs.Rules.{angle_word}
-use Rattle.mc_text.specs.Lists.{names_in, names_at, operand_at, operands_at}
+use Rattle.mc_text.specs.Lists.{names_at, operand_at, operands_at}
+use Rattle.mc_rows.specs.Rows.{is_one, has_one, named}
 use Rattle.mc_pattern_text.specs.Roles.{Role, record_word, input, prepared, operand, second, angle}
-use Rattle.mc_pattern_text.specs.Roles.{opening, first_term, term, output, surplus, may_follow}
+use Rattle.mc_pattern_text.specs.Roles.{opening, first_term, second_term, term, output, surplus}
+use Rattle.mc_pattern_text.specs.Roles.{may_follow}
 use Rattle.mc_pattern_text.specs.Roles.{role_of, is_defining, is_command, has_operand, is_measuring}
-use Rattle.mc_pattern_text.specs.Roles.{is_correcting, is_output}
-use Rattle.mc_pattern_text.specs.Value.{is_first, is_second, is_constant, words_under}
+use Rattle.mc_pattern_text.specs.Roles.{is_output}
+use Rattle.mc_pattern_text.specs.Value.{is_first, is_second, first_signal, second_signal}
 use Rattle.mc_pattern_text.specs.Value.{spelled_commands}
 
 -- the names that earlier lines measure
 abbrev pub measured_in : Lines → List (List ℕ)
 measured_in before = operands_at 0 is_measuring before
 
--- the words of the first signal of a line, and of the second
-abbrev pub first_signal : Words → Words
-first_signal here =
-    words_under is_first None (names_in is_measuring here) ++ drop 1 (names_in is_correcting here)
-
-abbrev pub second_signal : Words → Words
-second_signal here = words_under is_second None (names_in is_measuring here)
-
--- whether a further word stands in the second signal of its line
-abbrev pub is_in_second : Point → Bool
-is_in_second p = is_measuring p.head && is_second p.mark
-
 -- what a word is judged by: the names that are defined, that were measured in earlier lines and
--- that are listed as outputs, the first operand of its line, the words before it in its signal, and
--- the number of commands in the lines before
+-- that are listed as outputs, the first operand of its line, the words before it in the signals of
+-- its line, and the number of commands in the lines before
 pub record Known : Type 0 where
   pub names : List (List ℕ)
   pub measured : List (List ℕ)
   pub listed : List (List ℕ)
   pub operand : Option (List ℕ)
-  pub signal : Words
+  pub s : Words
+  pub t : Words
   pub commands : ℕ
 
 abbrev pub known_at : Lines → Words → Known
@@ -56,8 +46,8 @@ known_at before here = record {
   measured = measured_in before;
   listed = names_at is_output before here;
   operand = operand_at 0 has_operand here;
-  signal =
-      if is_in_second (point_of before here) then second_signal here else first_signal here;
+  s = first_signal here;
+  t = second_signal here;
   commands = length (spelled_commands before);
 }
 
@@ -83,15 +73,15 @@ output_name names measured listed word =
 -- a member of a signal, behind other words of it
 abbrev pub member_name : List (List ℕ) → List (List ℕ) → Words → List ℕ → Option Judgement
 member_name names measured signal word =
-    or_next (listed_name names signal word)
+    or_next (listed_name names (named signal) word)
     (broken ((not (is_held measured word), NotMeasured) ∷ []))
 
 -- a term of a signal: a member, or the constant where it may stand
 abbrev pub term_word : Bool → List (List ℕ) → List (List ℕ) → Words → List ℕ
     → Option Judgement
 term_word constants names measured signal word =
-    if constants && is_constant word
-    then broken ((is_held signal word, ListedTwice) ∷ [])
+    if constants && is_one word
+    then broken ((has_one signal, ListedTwice) ∷ [])
     else member_name names measured signal word
 
 -- a word that begins a signal
@@ -120,8 +110,9 @@ judge_by constants k last second word = second_name k.names k.measured k.operand
 judge_by constants k last angle word = angle_word word
 judge_by constants k last opening word = opening_word word
 judge_by constants k last first_term word =
-    first_term_word constants k.names k.measured k.signal word
-judge_by constants k last term word = term_word constants k.names k.measured k.signal word
+    first_term_word constants k.names k.measured k.s word
+judge_by constants k last second_term word = term_word constants k.names k.measured k.t word
+judge_by constants k last term word = term_word constants k.names k.measured k.s word
 judge_by constants k last output word = output_name k.names k.measured k.listed word
 judge_by constants k last surplus word = broken ((true, Surplus) ∷ [])
 

@@ -1,33 +1,32 @@
 -- What a reader keeps of a pattern's lines, and what a word and the end of a line do to it.
 use Rattle.std.specs.Prelude.{◌≡◌, ℕ, ◌+◌, ◌<◌, List, [], ◌∷◌, ◌++◌, Bool, true}
-use Rattle.std.specs.Prelude.{false, ◌||◌, ◌==◌, ◌⊎◌, nat_eq, map, length, if◌then◌else◌}
+use Rattle.std.specs.Prelude.{false, map, length}
 use Rattle.std.specs.Prelude.{Option, None, Some, option_to_list}
-use Rattle.std.specs.List.{list_all, list_any}
+use Rattle.std.specs.List.{list_all}
 use Rattle.mc_angle.specs.Angle.{angle_of}
 use Rattle.mc_model.specs.Limits.{most_qubits}
 use Rattle.mc_model.specs.Bits.{Bits, replaced, bits_of}
 use Rattle.mc_model.specs.Numbers.{is_member}
-use Rattle.mc_model.specs.Names.{AreNames, is_name, is_held, place_of}
-use Rattle.mc_model.specs.Signals.{Signal, IsRising, no_signal}
+use Rattle.mc_model.specs.Names.{AreNames, is_held, place_of}
+use Rattle.mc_model.specs.Signals.{Signal, no_signal}
 use Rattle.mc_model.specs.Pattern as plain
 use Rattle.mc_text.specs.declared.head.Head.{Head}
 use Rattle.mc_text.specs.declared.head.Head.TheVariants.{N, E, M, X, Z}
 use Rattle.mc_text.specs.declared.point.Mark.{Mark}
 use Rattle.mc_text.specs.declared.point.Point.{Point}
-use Rattle.mc_text.specs.Points.{mark_of}
 use Rattle.mc_text.specs.Judged.{Words, Lines}
 use Rattle.mc_text.specs.Rules.{number_in, AreNumbers}
 use Rattle.mc_text.specs.Lists.{names_at, added, operand_at}
+use Rattle.mc_rows.specs.Kept.{AreMembers}
 use Rattle.mc_pattern.specs.Commands.{plain_command}
 use Rattle.mc_pattern_text.specs.declared.reader.Reader.{Reader}
 use Rattle.mc_pattern_text.specs.declared.reader.Operands.{Operands}
 use Rattle.mc_pattern_text.specs.Roles.{role_of, role_behind, is_defining, is_input}
-use Rattle.mc_pattern_text.specs.Roles.{is_entangling, is_measuring, is_correcting}
-use Rattle.mc_pattern_text.specs.Roles.{is_command, has_operand, is_output}
-use Rattle.mc_pattern_text.specs.Value.{is_first, is_second, word_under, spelled_commands}
-use Rattle.mc_pattern_text.specs.Value.{command_by, is_constant, names_among}
-use Rattle.mc_pattern_text.specs.Judge.{Known, measured_in, first_signal, second_signal}
-use Rattle.mc_pattern_text.specs.Judge.{is_in_second, judge_by, lacks_by}
+use Rattle.mc_pattern_text.specs.Roles.{is_entangling, is_measuring}
+use Rattle.mc_pattern_text.specs.Roles.{is_command, is_output}
+use Rattle.mc_pattern_text.specs.Value.{first_of, second_of, first_signal, second_signal}
+use Rattle.mc_pattern_text.specs.Value.{command_by, spelled_commands}
+use Rattle.mc_pattern_text.specs.Judge.{Known, measured_in, judge_by, lacks_by}
 
 -- the names of a list are held, and marks stand at their numbers
 pub record AreMarked (names list : List (List ℕ)) (marks : Bits) : Type 0 where
@@ -35,16 +34,14 @@ pub record AreMarked (names list : List (List ℕ)) (marks : Bits) : Type 0 wher
   pub marked : (q : ℕ) → marks q ≡ is_member (map (number_in names) list) q
 
 -- these are the words of the signal: its members by their names, and perhaps the constant
-pub record IsSpelled (names : List (List ℕ)) (words : Words) (signal : Signal) : Type 0 where
-  pub members : AreMarked names (names_among words) (is_member signal.members)
-  pub constant : signal.constant ≡ list_any is_constant words
+abbrev pub IsSpelled : List (List ℕ) → Words → Signal → Type 0
+IsSpelled names words signal = AreMembers names words signal.members signal.constant
 
 -- what is kept of the words of a line
 pub record AreOperands {half : ℕ} (names : List (List ℕ)) (o : Operands half) (here : Words)
     : Type 0 where
   pub place : (a : List ℕ) → operand_at 0 is_command here ≡ Some a
       → place_of names a ≡ Some o.first
-  pub unmarked : (a : List ℕ) → operand_at 0 has_operand here ≡ Some a → mark_of a ≡ None
   pub second : (b : List ℕ) → operand_at 1 is_entangling here ≡ Some b
       → place_of names b ≡ Some o.second
   pub angle : (b : List ℕ) → operand_at 1 is_measuring here ≡ Some b → o.angle ≡ angle_of half b
@@ -67,99 +64,64 @@ pub record IsOperand (names : List (List ℕ)) (first : Option (List ℕ)) (numb
   pub is : first ≡ Some name
   pub place : place_of names name ≡ Some number
 
--- the signal in which a word stands
-abbrev pub signal_at : {half : ℕ} → Operands half → Point → Signal
-signal_at o p = if is_in_second p then o.t else o.s
-
 -- what stands before a word on its line
 pub record Stands {half : ℕ} (names : List (List ℕ)) (marks : Bits) (o : Operands half) (p : Point)
-    (measured : List (List ℕ)) (signal : Words) (first : Option (List ℕ)) : Type 0 where
+    (measured : List (List ℕ)) (s t : Words) (first : Option (List ℕ)) : Type 0 where
   pub are_measured : AreMarked names measured marks
-  pub spelled : IsSpelled names signal (signal_at o p)
+  pub s_is : IsSpelled names s o.s
+  pub t_is : IsSpelled names t o.t
   pub operand : p.count ≡ 2 → is_entangling p.head ≡ true → IsOperand names first o.first
 
-abbrev pub known_by : List (List ℕ) → List (List ℕ) → List (List ℕ) → Words → Option (List ℕ)
-    → ℕ → Known
-known_by names measured listed signal first commands = record {
+abbrev pub known_by : List (List ℕ) → List (List ℕ) → List (List ℕ) → Words → Words
+    → Option (List ℕ) → ℕ → Known
+known_by names measured listed s t first commands = record {
   names = names;
   measured = measured;
   listed = listed;
   operand = first;
-  signal = signal;
+  s = s;
+  t = t;
   commands = commands;
 }
 
--- the words that a word adds to the first signal of its line, and to the second
-abbrev pub added_first : Point → List ℕ → Words
-added_first p word =
-    if p.count == 0 then []
-    else (if p.count == 1 then []
-    else (if is_correcting p.head then word ∷ []
-    else (if p.count == 2 then []
-    else (if is_measuring p.head then word_under is_first p.mark word else []))))
-
-abbrev pub added_second : Point → List ℕ → Words
-added_second p word =
-    if p.count == 0 then []
-    else (if p.count == 1 then []
-    else (if p.count == 2 then []
-    else (if is_measuring p.head then word_under is_second p.mark word else [])))
-
--- a qubit goes into a signal, or the constant does
-pub record AddsMember (names : List (List ℕ)) (s s' : Signal) (word : List ℕ) : Type 0 where
-  pub number : ℕ
-  pub place : place_of names word ≡ Some number
-  pub name : is_constant word ≡ false
-  pub members : (r : ℕ) → is_member s'.members r ≡ is_member s.members r || nat_eq r number
-  pub constant : s'.constant ≡ s.constant
-
-pub record AddsConstant (s s' : Signal) (word : List ℕ) : Type 0 where
-  pub is : is_constant word ≡ true
-  pub members : s'.members ≡ s.members
-  pub constant : s'.constant ≡ true
-
--- a term goes into a signal, where there is one
+-- terms go into a signal, where there are any
 abbrev pub Joins : List (List ℕ) → Signal → Signal → Words → Type 0
 Joins names s s' [] = s' ≡ s
-Joins names s s' (word ∷ words) = AddsMember names s s' word ⊎ AddsConstant s s' word
+Joins names s s' (word ∷ more) =
+    (words : Words) → IsSpelled names words s → IsSpelled names (words ++ word ∷ more) s'
 
 -- what a word does to what is kept of its line
 pub record Fills {half : ℕ} (names : List (List ℕ)) (o o' : Operands half) (p : Point)
     (word : List ℕ) : Type 0 where
   pub place : p.count ≡ 1 → is_command p.head ≡ true → place_of names word ≡ Some o'.first
-  pub name : p.count ≡ 1 → has_operand p.head ≡ true → is_name word ≡ true
   pub same_first : ¬ (p.count ≡ 1) → o'.first ≡ o.first
   pub second : p.count ≡ 2 → is_entangling p.head ≡ true → place_of names word ≡ Some o'.second
   pub angle : p.count ≡ 2 → is_measuring p.head ≡ true → o'.angle ≡ angle_of half word
   pub same_second : ¬ (p.count ≡ 2) → o'.second ≡ o.second
   pub same_angle : ¬ (p.count ≡ 2) → o'.angle ≡ o.angle
-  pub s : Joins names o.s o'.s (added_first p word)
-  pub t : Joins names o.t o'.t (added_second p word)
-
--- the signal that the last mark begins
-abbrev pub signal_behind : {half : ℕ} → Operands half → Option Mark → Signal
-signal_behind o mark = if is_second mark then o.t else o.s
+  pub s : Joins names o.s o'.s (first_of (role_of p) word)
+  pub t : Joins names o.t o'.t (second_of (role_of p) word)
 
 -- what a word behind the angle of a measurement with nothing against it does
 pub record TakesBehind {half : ℕ} (constants : Bool) (names : List (List ℕ)) (marks : Bits)
     (o o' : Operands half) (mark : Option Mark) (word : List ℕ) : Type 0 where
-  pub clean : (measured listed : List (List ℕ)) (signal : Words) (first : Option (List ℕ))
+  pub clean : (measured listed : List (List ℕ)) (s t : Words) (first : Option (List ℕ))
       (commands : ℕ) (last : Option Head) → AreMarked names measured marks
-      → IsSpelled names signal (signal_behind o mark)
-      → judge_by constants (known_by names measured listed signal first commands) last
+      → IsSpelled names s o.s → IsSpelled names t o.t
+      → judge_by constants (known_by names measured listed s t first commands) last
       (role_behind mark) word ≡ None
   pub first : o'.first ≡ o.first
   pub second : o'.second ≡ o.second
   pub angle : o'.angle ≡ o.angle
-  pub s : Joins names o.s o'.s (word_under is_first mark word)
-  pub t : Joins names o.t o'.t (word_under is_second mark word)
+  pub s : Joins names o.s o'.s (first_of (role_behind mark) word)
+  pub t : Joins names o.t o'.t (second_of (role_behind mark) word)
 
 -- what a word of a command with nothing against it does to the operands
 pub record Takes {half : ℕ} (constants : Bool) (names : List (List ℕ)) (marks : Bits)
     (o o' : Operands half) (p : Point) (word : List ℕ) : Type 0 where
-  pub clean : (measured listed : List (List ℕ)) (signal : Words) (first : Option (List ℕ))
-      (commands : ℕ) → Stands names marks o p measured signal first
-      → judge_by constants (known_by names measured listed signal first commands) p.last (role_of p)
+  pub clean : (measured listed : List (List ℕ)) (s t : Words) (first : Option (List ℕ))
+      (commands : ℕ) → Stands names marks o p measured s t first
+      → judge_by constants (known_by names measured listed s t first commands) p.last (role_of p)
       word ≡ None
   pub fills : Fills names o o' p word
 
@@ -171,11 +133,11 @@ Lists names outputs outputs' (word ∷ words) =
 
 -- what a word with nothing against it does
 pub record Moves {half : ℕ} (k k' : Reader half) (p : Point) (word : List ℕ) : Type 0 where
-  pub clean : (measured listed : List (List ℕ)) (signal : Words) (first : Option (List ℕ))
-      → Stands k.names (bits_of k.marks) k.operands p measured signal first
+  pub clean : (measured listed : List (List ℕ)) (s t : Words) (first : Option (List ℕ))
+      → Stands k.names (bits_of k.marks) k.operands p measured s t first
       → AreNumbers k.names listed k.outputs.items
       → judge_by k.constants
-      (known_by k.names measured listed signal first (length k.commands.items)) p.last (role_of p)
+      (known_by k.names measured listed s t first (length k.commands.items)) p.last (role_of p)
       word ≡ None
   pub constants : k'.constants ≡ k.constants
   pub names : k'.names ≡ k.names ++ added is_defining p word
@@ -199,23 +161,17 @@ abbrev pub marks_with : Option Head → ℕ → Bits → Bits
 marks_with (Some M) q marks = replaced marks q true
 marks_with _ q marks = marks
 
--- what types say of operands: sets are in order
-pub record AreTyped {half : ℕ} (o : Operands half) : Type 0 where
-  pub s : IsRising o.s.members
-  pub t : IsRising o.t.members
-
 -- what the end of a line with nothing against it does
 pub record Ends {half : ℕ} (k k' : Reader half) (p : Point) : Type 0 where
-  pub clean : (measured listed : List (List ℕ)) (signal : Words) (first : Option (List ℕ))
+  pub clean : (measured listed : List (List ℕ)) (s t : Words) (first : Option (List ℕ))
       (commands : ℕ) → AreMarked k.names measured (bits_of k.marks)
       → AreNumbers k.names listed k.outputs.items
-      → lacks_by (known_by k.names measured listed signal first commands) (role_of p) ≡ None
+      → lacks_by (known_by k.names measured listed s t first commands) (role_of p) ≡ None
   pub constants : k'.constants ≡ k.constants
   pub valid : AreNames k.names
   pub names : k'.names ≡ k.names
   pub inputs : k'.inputs ≡ k.inputs
   pub outputs : k'.outputs.items ≡ k.outputs.items
-  pub typed : AreTyped k.operands
   pub commands : map (plain_command {h = half}) k'.commands.items
       ≡ map (plain_command {h = half}) k.commands.items
       ++ option_to_list (command_with p.head k.operands)

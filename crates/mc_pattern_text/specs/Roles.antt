@@ -10,8 +10,8 @@ use Rattle.mc_text.specs.declared.point.Point.{Point}
 -- a record word; a name that is defined as an input, or as a qubit that is prepared; the first
 -- operand of a command, the second of `e`, the angle of a measurement; behind the angle the word
 -- that begins a signal; behind `s:` a term of the first signal, or the word that begins the second
--- one; another term of a signal, which is a member or the constant; a name that is listed as an
--- output; a word behind a whole line
+-- one, and behind `t:` a term of that; a term of a correction's signal (a term is a member or the
+-- constant); a name that is listed as an output; a word behind a whole line
 pub data Role : Type 0 where
   record_word : Role
   input : Role
@@ -21,6 +21,7 @@ pub data Role : Type 0 where
   angle : Role
   opening : Role
   first_term : Role
+  second_term : Role
   term : Role
   output : Role
   surplus : Role
@@ -91,7 +92,7 @@ may_follow (Some _) head = false
 abbrev pub role_behind : Option Mark → Role
 role_behind None = opening
 role_behind (Some marks.S) = first_term
-role_behind (Some marks.T) = term
+role_behind (Some marks.T) = second_term
 role_behind (Some marks.Colon) = surplus
 
 -- the role of the n-th word behind a record word, where this is the last mark before it

@@ -6,7 +6,7 @@ ghost use Rattle.std.specs.Option.{option_map};
 ghost use Rattle.mc_angle.specs.Angle.{angle_of};
 ghost use Rattle.mc_model.specs.Bits.{bits_of};
 ghost use Rattle.mc_model.specs.Steps.{is_permitted};
-ghost use Rattle.mc_model.specs.Names.{is_name, place_of};
+ghost use Rattle.mc_model.specs.Names.{place_of};
 ghost use Rattle.mc_model.specs.Numbers.{is_member};
 ghost use Rattle.mc_model.specs.Signals.{no_signal};
 ghost use Rattle.mc_pattern.specs.Commands.{plain_command};
@@ -15,12 +15,12 @@ ghost use Rattle.mc_text.specs.Rules.{angle_word};
 ghost use Rattle.mc_text.specs.Stops.{IsStop};
 ghost use Rattle.mc_text.specs.declared.head.Head.{Head as PlainHead};
 ghost use Rattle.mc_pattern_text.specs.Roles.{has_operand, role_of, role_behind};
-ghost use Rattle.mc_pattern_text.specs.Value.{is_constant as constant_word};
+ghost use Rattle.mc_rows.specs.Rows.{is_one};
 ghost use Rattle.mc_pattern_text.specs.Judge.{judge_by, still_name, second_name, member_name};
 ghost use Rattle.mc_pattern_text.specs.Judge.{opening_word, term_word};
 ghost use Rattle.mc_pattern_text.specs.Kept.{AreMarked, IsOperand, IsSpelled, Joins};
-ghost use Rattle.mc_pattern_text.specs.Kept.{AddsMember, AddsConstant, Stands, Takes, TakesBehind};
-ghost use Rattle.mc_pattern_text.specs.Kept.{signal_behind, known_by, command_with, AreTyped};
+ghost use Rattle.mc_pattern_text.specs.Kept.{Stands, Takes, TakesBehind, known_by};
+ghost use Rattle.mc_pattern_text.specs.Kept.{command_with};
 
 use crate::reader::Operands;
 use mc_angle::Angle;
@@ -48,11 +48,8 @@ impl<const H: usize> Operands<H> {
 
     /// The command of a line with this record word.
     pub(crate) fn command(self, head: Option<Head>) -> Option<Command<H>>
-        ensures command { option_map plain_command result ≡ command_with head self.entry }
-        ensures typed { AreTyped self.entry }
+        ensures { option_map plain_command result ≡ command_with head self.entry }
     {
-        // the proof needs that sets are in order
-        let _members = (self.s.members().len(), self.t.members().len());
         match head {
             Some(Head::N) => Some(Command::Prep(self.first)),
             Some(Head::E) => Some(Command::Ent(self.first, self.second)),
@@ -87,7 +84,6 @@ pub(crate) fn still(names: &Names, marks: &[bool], word: &[u8]) -> Result<u16, S
     ensures clean { OnOk result ((measured : List (List ℕ))
         → AreMarked names.now measured (bits_of marks.now)
         → still_name names.now measured word.now ≡ None) }
-    ensures name { OnOk result (is_name word.now ≡ true) }
     ensures place { IfOk result (λ q. place_of names.now word.now ≡ Some q) }
     ensures err { IfErr result (λ stop. (measured : List (List ℕ))
         → AreMarked names.now measured (bits_of marks.now)
@@ -109,7 +105,6 @@ fn take_first(names: &Names, marks: &[bool], first: &mut u16, word: &[u8]) -> Re
     ensures clean { OnOk result ((measured : List (List ℕ))
         → AreMarked names.now measured (bits_of marks.now)
         → still_name names.now measured word.now ≡ None) }
-    ensures name { OnOk result (is_name word.now ≡ true) }
     ensures place { OnOk result (place_of names.now word.now ≡ Some first.new) }
     ensures err { IfErr result (λ stop. (measured : List (List ℕ))
         → AreMarked names.now measured (bits_of marks.now)
@@ -171,7 +166,7 @@ fn take_angle<const H: usize>(kept: &mut Angle<H>, word: &[u8]) -> Result<(), St
 
 /// Whether a word is that of the constant.
 fn is_constant(word: &[u8]) -> bool
-    ensures { result ≡ constant_word word.now }
+    ensures { result ≡ is_one word.now }
 {
     word == b"!".as_slice()
 }
@@ -193,14 +188,13 @@ fn take_member(names: &Names, marks: &[bool], signal: &mut Signal, word: &[u8]) 
     ensures clean { OnOk result ((measured words : List (List ℕ))
         → AreMarked names.now measured (bits_of marks.now) → IsSpelled names.now words signal.old
         → member_name names.now measured words word.now ≡ None) }
-    ensures name { OnOk result (is_name word.now ≡ true) }
-    ensures adds { OnOk result (AddsMember names.now signal.old signal.new word.now) }
+    ensures joins { OnOk result (Joins names.now signal.old signal.new (word.now ∷ [])) }
     ensures err { IfErr result (λ stop. (measured words : List (List ℕ))
         → AreMarked names.now measured (bits_of marks.now) → IsSpelled names.now words signal.old
         → IsStop stop (member_name names.now measured words word.now)) }
 {
-    // the proof needs that there are at most 256 names, and that the members are in order
-    let _count = (names.len(), signal.members().len());
+    // the proof needs that there are at most 256 names
+    let _count = names.len();
     let number = match known(names, word) {
         Ok(number) => number,
         Err(stop) => return Err(stop),
@@ -220,10 +214,10 @@ fn take_member(names: &Names, marks: &[bool], signal: &mut Signal, word: &[u8]) 
 /// Takes the constant of a signal.
 #[tactic(auto, using(crate::proofs::Terms::constant_terms))]
 fn take_constant(signal: &mut Signal, word: &[u8]) -> Result<(), Stop>
-    requires { constant_word word.now ≡ true }
+    requires { is_one word.now ≡ true }
     ensures clean { OnOk result ((names measured words : List (List ℕ))
         → IsSpelled names words signal.old → term_word true names measured words word.now ≡ None) }
-    ensures adds { OnOk result (AddsConstant signal.old signal.new word.now) }
+    ensures joins { OnOk result ((names : List (List ℕ)) → Joins names signal.old signal.new (word.now ∷ [])) }
     ensures err { IfErr result (λ stop. (names measured words : List (List ℕ))
         → IsSpelled names words signal.old
         → IsStop stop (term_word true names measured words word.now)) }
@@ -246,7 +240,6 @@ fn take_term(
     ensures clean { OnOk result ((measured words : List (List ℕ))
         → AreMarked names.now measured (bits_of marks.now) → IsSpelled names.now words signal.old
         → term_word constants names.now measured words word.now ≡ None) }
-    ensures unmarked { OnOk result (mark_of word.now ≡ None) }
     ensures joins { OnOk result (Joins names.now signal.old signal.new (word.now ∷ [])) }
     ensures err { IfErr result (λ stop. (measured words : List (List ℕ))
         → AreMarked names.now measured (bits_of marks.now) → IsSpelled names.now words signal.old
@@ -281,10 +274,10 @@ fn take_behind<const H: usize>(
 ) -> Result<(), Stop>
     ensures ok { OnOk result
         (TakesBehind constants names.now (bits_of marks.now) operands.old operands.new mark word.now) }
-    ensures err { IfErr result (λ stop. (measured listed signal : List (List ℕ)) (first : Option (List ℕ))
+    ensures err { IfErr result (λ stop. (measured listed s t : List (List ℕ)) (first : Option (List ℕ))
         (commands : ℕ) (last : Option PlainHead) → AreMarked names.now measured (bits_of marks.now)
-        → IsSpelled names.now signal (signal_behind operands.old mark)
-        → IsStop stop (judge_by constants (known_by names.now measured listed signal first commands) last
+        → IsSpelled names.now s operands.old.s → IsSpelled names.now t operands.old.t
+        → IsStop stop (judge_by constants (known_by names.now measured listed s t first commands) last
         (role_behind mark) word.now)) }
 {
     match mark {
@@ -313,9 +306,9 @@ pub(crate) fn take_word<const H: usize>(
     requires command { has_operand point.head ≡ true }
     ensures ok { OnOk result
         (Takes constants names.now (bits_of marks.now) operands.old operands.new point word.now) }
-    ensures err { IfErr result (λ stop. (measured listed signal : List (List ℕ)) (first : Option (List ℕ))
-        (commands : ℕ) → Stands names.now (bits_of marks.now) operands.old point measured signal first
-        → IsStop stop (judge_by constants (known_by names.now measured listed signal first commands)
+    ensures err { IfErr result (λ stop. (measured listed s t : List (List ℕ)) (first : Option (List ℕ))
+        (commands : ℕ) → Stands names.now (bits_of marks.now) operands.old point measured s t first
+        → IsStop stop (judge_by constants (known_by names.now measured listed s t first commands)
         point.last (role_of point) word.now)) }
 {
     match (point.head, point.count) {

@@ -8,14 +8,14 @@ ghost use Rattle.mc_write.specs.Text.{line_text, text_of, words_behind};
 ghost use Rattle.mc_write.specs.Named.{name_at};
 ghost use Rattle.mc_pattern.specs.Commands.{plain_command};
 ghost use Rattle.mc_pattern_text.specs.Written.{IsNamed, AreNamed};
-ghost use Rattle.mc_pattern_text.specs.Canonical.{marked, command_line, constant_words};
-ghost use Rattle.mc_pattern_text.specs.Canonical.{signal_words, pattern_text};
+ghost use Rattle.mc_pattern_text.specs.Canonical.{marked, command_line, signal_words, pattern_text};
 
 use mc_angle::Angle;
 use mc_lex::Kind;
 use mc_model::Memory;
 use mc_names::Names;
 use mc_pattern::{Command, Pattern};
+use mc_rows::{add_set, print_end};
 use mc_signal::Signal;
 use mc_text::print_header;
 use mc_write::{
@@ -63,36 +63,12 @@ fn print_inputs(text: &mut Vec<u8>, names: &Names, inputs: u16) -> Result<(), Me
     end_line(text)
 }
 
-/// Writes the members of a signal as further words of a line.
-fn add_members(text: &mut Vec<u8>, names: &Names, signal: &Signal) -> Result<(), Memory>
-    requires { All (λ k. k < length names.now) signal.now.members }
-    ensures { OnOk result (text.new.items ≡
-        text.old.items ++ words_behind (map (name_at names.now) signal.now.members)) }
-{
-    let members = signal.members();
-    'members: for i in 0..members.len() {
-        add_name(text, names, members.get(i))?;
-    }
-    Ok(())
-}
-
-/// Writes the constant as a further word of a line.
-fn add_constant(text: &mut Vec<u8>, constant: bool) -> Result<(), Memory>
-    ensures { OnOk result (text.new.items ≡ text.old.items ++ words_behind (constant_words constant)) }
-{
-    if constant {
-        add_word(text, b"!")?;
-    }
-    Ok(())
-}
-
 /// Writes a signal as further words of a line.
 fn add_signal(text: &mut Vec<u8>, names: &Names, signal: &Signal) -> Result<(), Memory>
     requires { All (λ k. k < length names.now) signal.now.members }
     ensures { OnOk result (text.new.items ≡ text.old.items ++ words_behind (signal_words names.now signal.now)) }
 {
-    add_members(text, names, signal)?;
-    add_constant(text, signal.constant())
+    add_set(text, names, signal.members(), signal.constant())
 }
 
 /// Writes a signal behind a mark, where it is not empty.
@@ -209,13 +185,6 @@ fn print_outputs(text: &mut Vec<u8>, names: &Names, outputs: &[u16]) -> Result<(
 {
     start_line(text, b"out")?;
     add_names(text, names, outputs)?;
-    end_line(text)
-}
-
-fn print_end(text: &mut Vec<u8>) -> Result<(), Memory>
-    ensures { OnOk result (text.new.items ≡ text.old.items ++ line_text (codes "end" ∷ [])) }
-{
-    start_line(text, b"end")?;
     end_line(text)
 }
 

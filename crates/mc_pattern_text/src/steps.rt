@@ -134,11 +134,11 @@ pub(crate) fn take<const H: usize>(
     word: &[u8],
 ) -> Result<(), Stop>
     ensures ok { OnOk result (Moves kept.old kept.new point word.now) }
-    ensures err { IfErr result (λ stop. (measured listed signal : List (List ℕ)) (first : Option (List ℕ))
-        → Stands kept.old.names (bits_of kept.old.marks) kept.old.operands point measured signal first
+    ensures err { IfErr result (λ stop. (measured listed s t : List (List ℕ)) (first : Option (List ℕ))
+        → Stands kept.old.names (bits_of kept.old.marks) kept.old.operands point measured s t first
         → AreNumbers kept.old.names listed kept.old.outputs.items
         → IsStop stop (judge_by kept.old.constants
-        (known_by kept.old.names measured listed signal first (length kept.old.commands.items))
+        (known_by kept.old.names measured listed s t first (length kept.old.commands.items))
         point.last (role_of point) word.now)) }
 {
     match (point.head, point.count) {
@@ -189,12 +189,12 @@ fn settles_each(names: &Names, marks: &[bool], numbers: &[u16]) -> bool
 
 /// Judges the end of a line.
 fn end_words(names: &Names, marks: &[bool], outputs: &[u16], point: Point) -> Result<(), Stop>
-    ensures clean { OnOk result ((measured listed signal : List (List ℕ)) (first : Option (List ℕ))
+    ensures clean { OnOk result ((measured listed s t : List (List ℕ)) (first : Option (List ℕ))
         (commands : ℕ) → AreMarked names.now measured (bits_of marks.now) → AreNumbers names.now listed outputs.now
-        → lacks_by (known_by names.now measured listed signal first commands) (role_of point) ≡ None) }
-    ensures err { IfErr result (λ stop. (measured listed signal : List (List ℕ)) (first : Option (List ℕ))
+        → lacks_by (known_by names.now measured listed s t first commands) (role_of point) ≡ None) }
+    ensures err { IfErr result (λ stop. (measured listed s t : List (List ℕ)) (first : Option (List ℕ))
         (commands : ℕ) → AreMarked names.now measured (bits_of marks.now) → AreNumbers names.now listed outputs.now
-        → IsStop stop (lacks_by (known_by names.now measured listed signal first commands) (role_of point))) }
+        → IsStop stop (lacks_by (known_by names.now measured listed s t first commands) (role_of point))) }
 {
     match (point.head, point.count) {
         (_, 0) => Err(Stop::Fault(Fault::LineEnds)),
@@ -244,10 +244,10 @@ fn append<const H: usize>(
 /// Judges the end of a line and takes its command.
 pub(crate) fn end_command<const H: usize>(kept: &mut Reader<H>, point: Point) -> Result<(), Stop>
     ensures ok { OnOk result (Ends kept.old kept.new point) }
-    ensures err { IfErr result (λ stop. (measured listed signal : List (List ℕ)) (first : Option (List ℕ))
+    ensures err { IfErr result (λ stop. (measured listed s t : List (List ℕ)) (first : Option (List ℕ))
         (commands : ℕ) → AreMarked kept.old.names measured (bits_of kept.old.marks)
         → AreNumbers kept.old.names listed kept.old.outputs.items
-        → IsStop stop (lacks_by (known_by kept.old.names measured listed signal first commands) (role_of point))) }
+        → IsStop stop (lacks_by (known_by kept.old.names measured listed s t first commands) (role_of point))) }
 {
     if let Err(stop) = end_words(&kept.names, &kept.marks, kept.outputs.as_slice(), point) {
         return Err(stop);

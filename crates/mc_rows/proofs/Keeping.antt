@@ -1,13 +1,12 @@
 -- A word and a line of a row with nothing against them are kept.
-use Rattle.std.proofs.Common.{◌≡◌, ℕ, suc, ◌+◌, List, [], ◌∷◌, ◌++◌, Bool, true, false, ◌&&◌}
+use Rattle.std.proofs.Common.{◌≡◌, ℕ, ◌+◌, List, [], ◌∷◌, ◌++◌, Bool, true, false, ◌&&◌}
 use Rattle.std.proofs.Common.{length, refl}
 use Rattle.std.proofs.Common.{sym, ap, ◌∙◌, arith, ◌==◌, if◌then◌else◌, Option, Some, None, codes}
 use Rattle.std.proofs.Common.{◌⊎◌, inl, inr}
-use Rattle.std.specs.List.{list_all, filter_map}
+use Rattle.std.specs.List.{list_all}
 use Rattle.std.proofs.lemmas.Bool.{eqb-true}
 use Rattle.std.proofs.lemmas.List.{append-nil}
 use Rattle.std.proofs.lemmas.List.Elements.{filter_map-append}
-use Rattle.std.proofs.lemmas.List.Folds.{list_all-append}
 use Rattle.mc_model.specs.Names.{Name, is_held}
 use Rattle.mc_model.specs.Numbers.{is_member}
 use Rattle.mc_angle.specs.Number.{number_of}
@@ -28,12 +27,12 @@ use Rattle.mc_rows.specs.declared.row.Role.TheVariants as role
 use Rattle.mc_rows.specs.declared.row.Row.{Row}
 use Rattle.mc_rows.specs.Rows.{Shapes, role_behind, role_in, role_at, is_number, is_name, is_listed}
 use Rattle.mc_rows.specs.Rows.{words_from, words_in}
-use Rattle.mc_rows.specs.Rows.{members_in, named, number_by, name_by, set_by, has_one}
+use Rattle.mc_rows.specs.Rows.{members_in, named}
 use Rattle.mc_rows.specs.Rows.{row_in, rows_in, spelled_row, row_of_none}
 use Rattle.mc_rows.specs.Judge.{Kind, head_word, name_word, member_word, judge_by, lacks_by}
 use Rattle.mc_rows.specs.Judge.{row_rules}
 use Rattle.mc_rows.specs.Kept.{AreMembers, IsKept, Passes, has_name}
-use Rattle.mc_rows.proofs.Words.{role_here, words_in-more, row_in-more, number_by-more}
+use Rattle.mc_rows.proofs.Words.{role_here, words_in-more, row_in-more}
 use Rattle.mc_rows.proofs.Words.{name_by-more}
 use Rattle.mc_rows.proofs.Sets.{no_members}
 
@@ -136,6 +135,17 @@ module _ (kind : Kind) (names : List Name) (holds : List Row → Type 0) where
     ended = m.ended;
   }
 
+  -- what is judged of a record word with nothing against it
+  head_free : (rows : List Row) (last : Option Head) (h : List ℕ)
+      → head_word kind rows last h ≡ None
+      → (kind.follows last (head_of h) ≡ true) × (kind.bars.head rows (head_of h) ≡ None)
+  head_free rows last h none = by_test (kind.follows last (head_of h)) refl
+    where
+      by_test : (t : Bool) → kind.follows last (head_of h) ≡ t
+          → (kind.follows last (head_of h) ≡ true) × (kind.bars.head rows (head_of h) ≡ None)
+      by_test true f = (f, rw f at none)
+      by_test false f = let none' = rw f at none in absurd (cc none')
+
   pub took_head : (row row' : Row) (before : Lines) (here : Words) (p : Point) (w : List ℕ)
       → role_at kind.shape p ≡ role.Record
       → ((rows : List Row) → holds rows → head_word kind rows p.last w ≡ None)
@@ -150,9 +160,7 @@ module _ (kind : Kind) (names : List Name) (holds : List Row → Type 0) where
           held_rows = m.held_rows;
           row_is = same ∙ rw m.row_is refl;
           held = refl;
-          head = λ h words eq.
-              let first : w ≡ h = cc eq in
-              rw (← first) (bar_free (kind.follows p.last (head_of w)) refl none);
+          head = λ h words eq. let first : w ≡ h = cc eq in rw (← first) (rw e at none);
           named = λ a words eq. absurd (cc eq);
           listed = λ q member.
               let member' = rw (same, m.row_is, no_members names) at member in
@@ -160,12 +168,6 @@ module _ (kind : Kind) (names : List Name) (holds : List Row → Type 0) where
           ended = m.ended;
         },
       )
-    where
-      bar_free : (t : Bool) → kind.follows p.last (head_of w) ≡ t
-          → head_word kind (rows_in kind.shape names before) p.last w ≡ None
-          → kind.bars.head (rows_in kind.shape names before) (head_of w) ≡ None
-      bar_free true f n = rw f at n
-      bar_free false f n = let n' = rw f at n in absurd (cc n')
   took_head row row' before (h ∷ words) p w is clean same m e =
       absurd (not_record (kind.shape (head_of h)) (1 + length words)
       (sym (role_here kind.shape before h words p e) ∙ is))
@@ -313,13 +315,19 @@ module _ (kind : Kind) (names : List Name) (holds : List Row → Type 0) where
   -- a line with nothing against it
   pub passes : (row : Row) (before : Lines) (here : Words) (p : Point)
       → IsKept kind names holds row before here → p ≡ point_of before here
-      → lacks_by (role_at kind.shape p) ≡ None → Passes kind (rows_in kind.shape names before) row
-  passes row before [] p m e clean = let clean' = rw e at clean in absurd (cc clean')
-  passes row before (h ∷ words) p m e clean =
+      → is_end p.head ≡ false → lacks_by (role_at kind.shape p) ≡ None
+      → Passes kind (rows_in kind.shape names before) row
+  passes row before [] p m e goes clean = let clean' = rw e at clean in absurd (cc clean')
+  passes row before (h ∷ words) p m e goes clean =
       let head : row.head ≡ head_of h = ap (λ (r : Row). r.head) m.row_is in
+      let same : p.head ≡ head_of h = rw e (head_at before (h ∷ words)) in
       let clean' = rw (role_here kind.shape before h words p e) at clean in
+      let free = head_free (rows_in kind.shape names before) (last_head before) h
+      (m.head h words refl) in
       record {
-        head = rw head (m.head h words refl);
+        follows = (last_head before, rw head free.0);
+        goes = ap is_end (head ∙ sym same) ∙ goes;
+        head = rw head free.1;
         named = λ has.
             let has' = rw head at has in
             let there = name_there (kind.shape (head_of h)) words has' clean' in
@@ -333,7 +341,8 @@ module _ (kind : Kind) (names : List Name) (holds : List Row → Type 0) where
       → kind.bars.head (rows_in kind.shape names before) (Some End) ≡ None
   end_free row before [] m ends = absurd (cc ends)
   end_free row before (h ∷ words) m ends =
-      rw (← end_head (head_of h) ends) (m.head h words refl)
+      rw (← end_head (head_of h) ends)
+      (head_free (rows_in kind.shape names before) (last_head before) h (m.head h words refl)).1
 
   pub line_kept : (holds' : List Row → Type 0) (row : Row) (before : Lines) (here : Words)
       (p : Point) → is_end p.head ≡ false → lacks_by (role_at kind.shape p) ≡ None
@@ -349,7 +358,7 @@ module _ (kind : Kind) (names : List Name) (holds : List Row → Type 0) where
       filter_map-append (spelled_row kind.shape names) before (here ∷ []) ∙ rw (goes', m.row_is) refl in (
         rw (← e) clean,
         record {
-          held_rows = rw more (keeps rows m.held_rows (passes row before here p m e clean));
+          held_rows = rw more (keeps rows m.held_rows (passes row before here p m e goes clean));
           row_is = rw (no_members names) refl;
           held = refl;
           head = λ h words eq. absurd (cc eq);

@@ -6,3 +6,5 @@ pub mod Lines
 pub mod Sound
 pub mod Printing
 pub mod Within
+pub mod NoLimits
+pub mod Holding

@@ -1,32 +1,28 @@
 -- The lines of rows, word by word: nothing is against them.
-use Rattle.std.proofs.Common.{◌≡◌, ℕ, zero, suc, ◌+◌, ◌<◌, ◌≤◌, All, List, [], ◌∷◌, ◌++◌, Bool}
+use Rattle.std.proofs.Common.{◌≡◌, ℕ, ◌+◌, ◌<◌, ◌≤◌, All, List, [], ◌∷◌, ◌++◌, Bool}
 use Rattle.std.proofs.Common.{true}
-use Rattle.std.proofs.Common.{false, ◌&&◌, ◌||◌, length, map, codes, refl, sym, ap, ◌∙◌, arith}
+use Rattle.std.proofs.Common.{false, length, map, codes, refl, sym, ap, ◌∙◌, arith}
 use Rattle.std.proofs.Common.{nat_eq}
-use Rattle.std.proofs.Common.{append_assoc, length-append, eq-eqb, ne_eqb, ◌==◌, Option, Some, None}
+use Rattle.std.proofs.Common.{eq-eqb, ne_eqb, Some}
 use Rattle.std.proofs.Common.{if◌then◌else◌, inl, inr}
-use Rattle.std.specs.Fmt.{decimal}
 use Rattle.std.proofs.lemmas.Bool.{eqb-true, or_cases, or_right}
-use Rattle.std.specs.List.{list_all, list_any, IsDistinct}
-use Rattle.std.proofs.lemmas.List.{append-nil, map-append}
-use Rattle.std.proofs.lemmas.List.Elements.{filter_map-append, All-head, All-tail, All-cons}
-use Rattle.std.proofs.lemmas.List.Folds.{list_any-append, list_all-append}
-use Rattle.std.proofs.lemmas.List.Sums.{fold-append}
-use Rattle.mc_model.specs.Names.{Name, AreNames, name_eq, is_name, is_held}
+use Rattle.std.specs.List.{IsDistinct}
+use Rattle.std.proofs.lemmas.List.{append-nil}
+use Rattle.std.proofs.lemmas.List.Elements.{All-head, All-tail, All-cons}
+use Rattle.std.proofs.lemmas.List.Folds.{list_any-append}
+use Rattle.mc_model.specs.Names.{Name, AreNames, name_eq, is_held}
 use Rattle.mc_model.specs.Numbers.{is_member, numbers_where}
 use Rattle.mc_model.specs.Signals.{AllAbove, IsRising}
 use Rattle.mc_angle.proofs.Numerals.{number-decimal}
 use Rattle.mc_write.specs.Named.{name_at}
 use Rattle.mc_text.specs.declared.head.Head.{Head}
 use Rattle.mc_text.specs.declared.head.Head.TheVariants as head
-use Rattle.mc_text.specs.Heads.{spelling, head_of, head_in, is_end}
-use Rattle.mc_text.specs.Points.{point_of, last_head}
-use Rattle.mc_text.specs.Judged.{Words, Lines}
+use Rattle.mc_text.specs.Heads.{spelling, head_of}
+use Rattle.mc_text.specs.Judged.{Words}
 use Rattle.mc_text.specs.Rules.{number_in}
-use Rattle.mc_text.proofs.Clean.{CleanWords, Clean, last, more}
-use Rattle.mc_text.proofs.Naming.{number-name_at, held-name_at, is_name-name_at, numbers-name_at}
-use Rattle.mc_text.proofs.Naming.{place-name_at, name_written, number_written}
-use Rattle.mc_text.proofs.Written.{is_written, is_written_line}
+use Rattle.mc_text.proofs.Naming.{number-name_at, is_name-name_at, numbers-name_at}
+use Rattle.mc_text.proofs.Naming.{place-name_at}
+use Rattle.mc_text.proofs.Written.{is_written}
 use Rattle.mc_rows.specs.declared.row.Shape.{Shape}
 use Rattle.mc_rows.specs.declared.row.Shape.TheVariants.{Bare, Numbered, Ranked, Listed}
 use Rattle.mc_rows.specs.declared.row.Shape.TheVariants.{Set, NamedSet, RankedSet}
@@ -34,14 +30,12 @@ use Rattle.mc_rows.specs.declared.row.Role.{Role}
 use Rattle.mc_rows.specs.declared.row.Role.TheVariants as role
 use Rattle.mc_rows.specs.declared.row.Row.{Row}
 use Rattle.mc_rows.specs.Rows.{role_behind, is_number, is_name as names_row, is_listed}
-use Rattle.mc_rows.specs.Rows.{words_from, members_in, named, has_one, is_one, number_by, name_by}
-use Rattle.mc_rows.specs.Rows.{set_by, row_in, rows_in, spelled_row}
-use Rattle.mc_rows.specs.Judge.{Kind, judge_by, row_rules}
-use Rattle.mc_rows.specs.Kept.{has_name}
-use Rattle.mc_rows.specs.Written.{has_set, set_words, due_words, words_of_row, row_line, rows_lines}
-use Rattle.mc_rows.specs.Written.{IsPlain, IsNamed, IsSound, AreSound}
-use Rattle.mc_rows.proofs.Words.{role_here}
-use Rattle.mc_rows.proofs.Sets.{name_no_one, named-one, member-listed}
+use Rattle.mc_rows.specs.Rows.{words_from, named, has_one, is_one, number_by, name_by}
+use Rattle.mc_rows.specs.Rows.{set_by}
+use Rattle.mc_rows.specs.Written.{has_set, set_words, due_words}
+use Rattle.mc_rows.specs.Written.{IsPlain, IsNamed}
+use Rattle.mc_text.proofs.Members.{member-listed}
+use Rattle.mc_rows.proofs.Sets.{name_no_one, named-one}
 use Rattle.mc_rows.proofs.RisingSets.{where_members}
 
 -- a member of numbers below a bound is below it

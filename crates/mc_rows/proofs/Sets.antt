@@ -1,47 +1,29 @@
 -- The members of a set by their names, with one more.
-use Rattle.std.proofs.Common.{◌≡◌, ℕ, zero, suc, ◌<◌, List, [], ◌∷◌, ◌++◌, Bool, true, false, not}
+use Rattle.std.proofs.Common.{◌≡◌, ℕ, zero, suc, ◌<◌, List, [], ◌∷◌, ◌++◌, Bool, true, false}
 use Rattle.std.proofs.Common.{◌&&◌, ◌||◌, Some, None, length, map, refl, sym, ap, ◌∙◌, arith}
 use Rattle.std.proofs.Common.{nat_eq}
 use Rattle.std.proofs.Common.{nat_lt, codes, ◌⊎◌}
-use Rattle.std.specs.List.{list_all, list_any, filter}
+use Rattle.std.specs.List.{filter}
 use Rattle.std.proofs.lemmas.Bool.{cases_Bool}
 use mathlib.Core.Logic.{inl, inr}
 use Rattle.std.proofs.lemmas.Bool.Decides.{nat_tests}
 use Rattle.std.proofs.lemmas.List.{append-nil, map-append}
 use Rattle.std.proofs.lemmas.List.Folds.{list_any-append, list_all-append}
-use Rattle.std.proofs.lemmas.List.Quantifiers.{position-Some}
 use Rattle.mc_model.specs.Bits.{◌⊻◌}
-use Rattle.mc_model.specs.Names.{name_eq, is_name, is_held, place_of}
-use Rattle.mc_model.specs.Numbers.{is_member, numbers_from, numbers_where}
+use Rattle.mc_model.specs.Names.{is_name, is_held, place_of}
+use Rattle.mc_model.specs.Numbers.{is_member, numbers_from}
 use Rattle.mc_model.specs.Signals.{toggled}
 use Rattle.mc_names.specs.Stored.{name_eq-true}
 use Rattle.mc_text.specs.declared.fault.Fault.TheVariants.{ListedTwice}
-use Rattle.mc_text.specs.Heads.{is_word}
-use Rattle.mc_text.specs.Judged.{Judgement, fault, Words}
-use Rattle.mc_text.specs.Rules.{number_in, known_name, listed_name}
-use Rattle.mc_text.proofs.Numbers.{held-place, listed-number}
+use Rattle.mc_text.specs.Judged.{fault, Words}
+use Rattle.mc_text.specs.Rules.{number_in, known_name}
+use Rattle.mc_text.proofs.Members.{member-listed, place-below}
+use Rattle.mc_text.proofs.Numbers.{held-place}
 use Rattle.mc_rows.specs.declared.row.Row.{Row}
 use Rattle.mc_rows.specs.Rows.{is_one, has_one, named, set_by}
 use Rattle.mc_rows.specs.Judge.{Kind, member_word}
 use Rattle.mc_rows.specs.Kept.{AreMembers}
 use Rattle.mc_rows.proofs.RisingSets.{member_where, same_where, toggled_where}
-
-pub place-below : (names : List (List ℕ)) (a : List ℕ) (q : ℕ) → place_of names a ≡ Some q
-    → q < length names
-place-below names a q e = (position-Some (name_eq a) names q [] e).0
-
-member-any : (qs : List ℕ) (q : ℕ) → is_member qs q ≡ list_any (λ r. nat_eq r q) qs
-member-any [] q = refl
-member-any (r ∷ qs) q =
-    let turned : nat_eq q r ≡ nat_eq r q = grind (arith, nat_tests) in
-    rw (turned, member-any qs q) refl
-
--- a name is in a list where its number is among the numbers of the list
-pub member-listed : (names list : List (List ℕ)) (word : List ℕ) (q : ℕ)
-    → place_of names word ≡ Some q → list_all (is_held names) list ≡ true
-    → is_member (map (number_in names) list) q ≡ is_held list word
-member-listed names list word q place held =
-    member-any (map (number_in names) list) q ∙ listed-number names list word q place held
 
 below_test : (q n : ℕ) → q < n → nat_lt q n ≡ true
 below_test q n lt = grind (arith, nat_tests)

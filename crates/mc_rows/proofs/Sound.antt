@@ -1,5 +1,5 @@
 -- The lines of sound rows are read without a fault, as these rows.
-use Rattle.std.proofs.Common.{◌≡◌, ℕ, zero, suc, ◌+◌, ◌<◌, ◌≤◌, All, List, [], ◌∷◌, ◌++◌, Bool}
+use Rattle.std.proofs.Common.{◌≡◌, ℕ, ◌+◌, ◌<◌, ◌≤◌, All, List, [], ◌∷◌, ◌++◌, Bool}
 use Rattle.std.proofs.Common.{true}
 use Rattle.std.proofs.Common.{false, ◌&&◌, nat_le, drop, length, map, codes, refl, sym, ap, ◌∙◌}
 use Rattle.std.proofs.Common.{arith, nat_eq}
@@ -9,10 +9,10 @@ use Rattle.std.specs.Fmt.{decimal}
 use Rattle.std.specs.List.{list_all}
 use Rattle.std.proofs.lemmas.Bool.{or_right}
 use Rattle.std.proofs.lemmas.List.{append-nil, map-append}
-use Rattle.std.proofs.lemmas.List.Elements.{filter_map-append, All-head, All-tail}
+use Rattle.std.proofs.lemmas.List.Elements.{filter_map-append}
 use Rattle.std.proofs.lemmas.List.Folds.{list_all-append}
 use Rattle.std.proofs.lemmas.List.Sums.{fold-append}
-use Rattle.mc_model.specs.Names.{Name, AreNames, is_held}
+use Rattle.mc_model.specs.Names.{Name, AreNames}
 use Rattle.mc_model.specs.Numbers.{is_member}
 use Rattle.mc_model.specs.Signals.{IsRising}
 use Rattle.mc_angle.proofs.Numerals.{number-decimal}
@@ -25,9 +25,10 @@ use Rattle.mc_text.specs.declared.head.Head.TheVariants.{End}
 use Rattle.mc_text.specs.Heads.{spelling, head_of, head_in, is_end}
 use Rattle.mc_text.specs.Points.{point_of, last_head}
 use Rattle.mc_text.specs.Judged.{Words, Lines, Place}
+use Rattle.mc_text.proofs.FirstNames.{at_written, each_written}
 use Rattle.mc_text.proofs.Clean.{CleanWords, Clean, last, more, IsRead, written_read}
 use Rattle.mc_text.proofs.Naming.{number-name_at, held-name_at, is_name-name_at}
-use Rattle.mc_text.proofs.Naming.{name_written, number_written}
+use Rattle.mc_text.proofs.Naming.{number_written}
 use Rattle.mc_text.proofs.Written.{is_written, is_written_line}
 use Rattle.mc_rows.specs.declared.row.Shape.{Shape}
 use Rattle.mc_rows.specs.declared.row.Shape.TheVariants.{Bare, Numbered, Ranked, Listed}
@@ -35,14 +36,14 @@ use Rattle.mc_rows.specs.declared.row.Shape.TheVariants.{Set, NamedSet, RankedSe
 use Rattle.mc_rows.specs.declared.row.Role.{Role}
 use Rattle.mc_rows.specs.declared.row.Role.TheVariants as role
 use Rattle.mc_rows.specs.declared.row.Row.{Row}
-use Rattle.mc_rows.specs.Rows.{role_behind, role_at, words_in, words_from, members_in, is_number}
+use Rattle.mc_rows.specs.Rows.{role_behind, role_at, words_from, members_in, is_number}
 use Rattle.mc_rows.specs.Rows.{is_listed}
 use Rattle.mc_rows.specs.Rows.{number_by, set_by, has_one}
 use Rattle.mc_rows.specs.Rows.{row_in, rows_in, spelled_row}
-use Rattle.mc_rows.specs.Judge.{Kind, judge_by, lacks_by, row_rules, name_word, member_word}
+use Rattle.mc_rows.specs.Judge.{Kind, judge_by, lacks_by, row_rules}
 use Rattle.mc_rows.specs.Kept.{has_name}
-use Rattle.mc_rows.specs.Written.{has_set, set_words, due_words, words_of_row, row_line, rows_lines}
-use Rattle.mc_rows.specs.Written.{IsPlain, IsNamed, IsSound, AreSound, IsWrittenHeader}
+use Rattle.mc_rows.specs.Written.{has_set, set_words, due_words, row_line, rows_lines}
+use Rattle.mc_rows.specs.Written.{IsPlain, IsSound, AreSound, IsWrittenHeader}
 use Rattle.mc_rows.proofs.Words.{role_here}
 use Rattle.mc_rows.proofs.Sets.{name_no_one, no_members}
 use Rattle.mc_rows.proofs.Lines.{head_spelled, listed_behind, number_back, name_back, named_all}
@@ -349,23 +350,14 @@ module _ (kind : Kind) (names : List Name) (valid : AreNames names) where
       (ap (λ (rs : List Row). row ∷ rs) (rows_back row.head (done ++ row ∷ []) rows sound.1))
 
 -- the lines of sound rows can be written
-names_written : (names : List Name) (qs : List ℕ) → AreNames names → All (λ q. q < length names) qs
-    → list_all is_written (map (name_at names) qs) ≡ true
-names_written names [] valid below = refl
-names_written names (q ∷ qs) valid below =
-    let lt = All-head (λ p. p < length names) q qs below in
-    let name = name_written (name_at names q) (is_name-name_at names q valid lt) in
-    let rest = names_written names qs valid (All-tail (λ p. p < length names) q qs below) in
-    rw (name, rest) refl
-
-set_written : (names : List Name) (set : List ℕ) (t : Bool) → AreNames names
+pub set_written : (names : List Name) (set : List ℕ) (t : Bool) → AreNames names
     → All (λ q. q < length names) set → list_all is_written (set_words names set t) ≡ true
 set_written names set true valid below =
     list_all-append is_written (map (name_at names) set) (codes "!" ∷ [])
-    ∙ rw (names_written names set valid below) refl
+    ∙ rw (each_written names set valid below) refl
 set_written names set false valid below =
     list_all-append is_written (map (name_at names) set) []
-    ∙ rw (names_written names set valid below) refl
+    ∙ rw (each_written names set valid below) refl
 
 due_written : (names : List Name) (s : Shape) (n q : ℕ) → AreNames names → n ≤ 9999
     → (has_name s ≡ true → q < length names) → list_all is_written (due_words s names n q) ≡ true
@@ -375,17 +367,17 @@ due_written names Numbered n q valid few lt =
 due_written names Ranked n q valid few lt =
     rw (
       number_written (decimal n) (number-decimal n (omega arith)).0,
-      name_written (name_at names q) (is_name-name_at names q valid (lt refl)),
+      at_written names q valid (lt refl),
     ) refl
 due_written names Listed n q valid few lt =
-    rw (name_written (name_at names q) (is_name-name_at names q valid (lt refl))) refl
+    rw (at_written names q valid (lt refl)) refl
 due_written names Set n q valid few lt = refl
 due_written names NamedSet n q valid few lt =
-    rw (name_written (name_at names q) (is_name-name_at names q valid (lt refl))) refl
+    rw (at_written names q valid (lt refl)) refl
 due_written names RankedSet n q valid few lt =
     rw (
       number_written (decimal n) (number-decimal n (omega arith)).0,
-      name_written (name_at names q) (is_name-name_at names q valid (lt refl)),
+      at_written names q valid (lt refl),
     ) refl
 
 tail_written : (names : List Name) (t : Bool) (set : List ℕ) (constant : Bool) → AreNames names

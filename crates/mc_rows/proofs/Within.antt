@@ -2,23 +2,22 @@
 use Rattle.std.proofs.Common.{◌≡◌, ℕ, zero, suc, ◌<◌, All, List, [], ◌∷◌, Bool, true, false, ◌&&◌}
 use Rattle.std.proofs.Common.{length}
 use Rattle.std.proofs.Common.{refl, sym, arith, nat_lt, Option, Some, None, slice_get, ◌∙◌, eq-eqb}
-use Rattle.std.proofs.Common.{if◌then◌else◌, ◌||◌, nat_eq, map, fold}
+use Rattle.std.proofs.Common.{nat_eq, map, fold}
 use Rattle.std.specs.List.{AllByRecursion}
 use Rattle.std.proofs.lemmas.Bool.{or_right}
 use Rattle.std.proofs.lemmas.Bool.Decides.{nat_tests}
 use Rattle.std.proofs.lemmas.List.Elements.{All-from_recursion}
 use Rattle.mc_model.specs.Names.{Name, place_of}
 use Rattle.mc_model.specs.Numbers.{is_member, numbers_where}
-use Rattle.mc_model.specs.Signals.{IsRising}
 use Rattle.mc_text.specs.Heads.{head_in, is_end}
 use Rattle.mc_text.specs.Judged.{Words, Lines}
 use Rattle.mc_text.specs.Rules.{number_in}
 use Rattle.mc_rows.specs.declared.row.Row.{Row}
-use Rattle.mc_rows.specs.Rows.{Shapes, is_name, words_in, members_in, named, name_by, set_by}
+use Rattle.mc_rows.specs.Rows.{Shapes, is_name, words_in, members_in, named}
 use Rattle.mc_rows.specs.Rows.{row_in, rows_in}
 use Rattle.mc_rows.specs.Written.{IsWithin}
 use Rattle.mc_rows.proofs.RisingSets.{rising_where, member_where}
-use Rattle.mc_rows.proofs.Sets.{place-below}
+use Rattle.mc_text.proofs.Members.{place-below}
 
 number_within : (names : List Name) (w : Name) → 0 < length names → number_in names w < length names
 number_within names w some = by_place (place_of names w) refl
@@ -33,18 +32,22 @@ name_within names q [] some lt = lt
 name_within names q (w ∷ words) some lt =
     name_within names (number_in names w) words some (number_within names w some)
 
-below_each : (n : ℕ) (qs : List ℕ) → ((q : ℕ) → is_member qs q ≡ true → q < n)
-    → AllByRecursion (λ (q : ℕ). q < n) qs
-below_each n [] below = tt
-below_each n (q ∷ qs) below = (
-  below q (rw (eq-eqb q q refl) refl),
-  below_each n qs (λ r is. below r (or_right (nat_eq r q) (is_member qs r) is)),
+-- what holds of each member holds of all
+each_member : (P : ℕ → Type 0) (qs : List ℕ) → ((q : ℕ) → is_member qs q ≡ true → P q)
+    → AllByRecursion P qs
+each_member P [] holds = tt
+each_member P (q ∷ qs) holds = (
+  holds q (rw (eq-eqb q q refl) refl),
+  each_member P qs (λ r is. holds r (or_right (nat_eq r q) (is_member qs r) is)),
 )
 
+pub all_members : (P : ℕ → Type 0) (qs : List ℕ) → ((q : ℕ) → is_member qs q ≡ true → P q)
+    → All P qs
+all_members P qs holds = All-from_recursion P qs (each_member P qs holds)
+
 set_within : (p : ℕ → Bool) (n : ℕ) → All (λ q. q < n) (numbers_where p n)
-set_within p n = All-from_recursion (λ (q : ℕ). q < n) (numbers_where p n)
-    (below_each n (numbers_where p n) (λ q member.
-    below q (second (p q) (nat_lt q n) (sym (member_where p n q) ∙ member))))
+set_within p n = all_members (λ (q : ℕ). q < n) (numbers_where p n)
+    (λ q member. below q (second (p q) (nat_lt q n) (sym (member_where p n q) ∙ member)))
   where
     second : (a b : Bool) → (a && b) ≡ true → b ≡ true
     second true b e = e

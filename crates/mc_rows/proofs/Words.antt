@@ -1,7 +1,7 @@
 -- The words of a row by their roles, and the row that they spell, with one more word.
-use Rattle.std.proofs.Common.{◌≡◌, ℕ, zero, suc, ◌+◌, ◌<◌, List, [], ◌∷◌, ◌++◌, Bool, true, false}
-use Rattle.std.proofs.Common.{length, min, refl, sym, ap, ◌∙◌, append_assoc, arith, ◌==◌, ne_eqb}
-use Rattle.std.proofs.Common.{if◌then◌else◌, inl, inr, Option, Some, None}
+use Rattle.std.proofs.Common.{◌≡◌, ℕ, suc, ◌+◌, ◌<◌, List, [], ◌∷◌, ◌++◌, Bool}
+use Rattle.std.proofs.Common.{length, min, refl, sym, ◌∙◌, append_assoc, arith, ◌==◌, ne_eqb}
+use Rattle.std.proofs.Common.{if◌then◌else◌, inl, inr}
 use Rattle.std.proofs.lemmas.Bool.{cases_eq, eq-eqb}
 use Rattle.std.proofs.lemmas.List.{append-nil}
 use Rattle.std.proofs.lemmas.List.Sums.{fold-append}
@@ -18,8 +18,6 @@ use Rattle.mc_rows.specs.declared.row.Shape.{Shape}
 use Rattle.mc_rows.specs.declared.row.Shape.TheVariants.{Bare, Numbered, Ranked, Listed}
 use Rattle.mc_rows.specs.declared.row.Shape.TheVariants.{Set, NamedSet, RankedSet}
 use Rattle.mc_rows.specs.declared.row.Role.{Role}
-use Rattle.mc_rows.specs.declared.row.Role.TheVariants.{Record}
-use Rattle.mc_rows.specs.declared.row.Row.{Row}
 use Rattle.mc_rows.specs.Rows.{Shapes, role_behind, role_at, is_number, is_name, is_listed}
 use Rattle.mc_rows.specs.Rows.{words_from, words_in, members_in, number_by, name_by, set_by}
 use Rattle.mc_rows.specs.Rows.{has_one, row_in}

@@ -2,8 +2,6 @@
 use Rattle.std.proofs.Common.{◌≡◌, Option, Some, None}
 use Rattle.mc_lex.specs.declared.end.TextEnd.{TextEnd}
 use Rattle.mc_lex.specs.declared.end.TextEnd.TheVariants as end
-use Rattle.mc_text.specs.declared.fault.Stop.{Stop}
-use Rattle.mc_text.specs.declared.fault.Stop.TheVariants as stop
 use Rattle.mc_text.specs.Judged.{Judgement, Place, or_later}
 use Rattle.mc_text.specs.Stops.{answered, IsEnd}
 

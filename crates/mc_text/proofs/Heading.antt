@@ -9,7 +9,6 @@ use Rattle.mc_lex.specs.Given.{first_of}
 use Rattle.mc_text.specs.declared.fault.Fault.{Fault}
 use Rattle.mc_text.specs.declared.fault.Fault.TheVariants.{LineEnds}
 use Rattle.mc_text.specs.declared.fault.Stop.{Stop}
-use Rattle.mc_text.specs.declared.fault.Stop.TheVariants as stop
 use Rattle.mc_text.specs.declared.form.Form.{Form}
 use Rattle.mc_text.specs.declared.form.Behind.{Behind}
 use Rattle.mc_text.specs.declared.point.Point.{Point}

@@ -149,7 +149,7 @@ and_first : (a b : Bool) → (a && b) ≡ true → (a ≡ true) × (b ≡ true)
 and_first true b e = (refl, e)
 and_first false b e = absurd (cc e)
 
-held_more : (names more list : List (List ℕ)) → list_all (is_held names) list ≡ true
+pub held_more : (names more list : List (List ℕ)) → list_all (is_held names) list ≡ true
     → (list_all (is_held (names ++ more)) list ≡ true)
     × (map (number_in (names ++ more)) list ≡ map (number_in names) list)
 held_more names more [] all = (refl, refl)

@@ -13,3 +13,9 @@ pub mod Unbroken
 pub mod HeadersWritten
 pub mod Naming
 pub mod HeadersBack
+pub mod GoesOn
+pub mod NoLimits
+pub mod Places
+pub mod Members
+pub mod FirstNames
+pub mod NamesHere

@@ -7,3 +7,4 @@ pub mod Takes
 pub mod Rules
 pub mod Lists
 pub mod Headers
+pub mod Places

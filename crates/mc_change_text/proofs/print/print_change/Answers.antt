@@ -3,7 +3,7 @@ use Rattle.mc_rows.specs.Written.{row_line}
 use Rattle.mc_change_text.specs.Kinds.{change_shape}
 use Rattle.mc_change_text.specs.Canonical.{written_row, change_header}
 use Rattle.mc_change_text.proofs.Sound.{rows_named}
-use Rattle.mc_change_text.proofs.Printing.{lines_written}
+use Rattle.mc_rows.proofs.Printing.{lines_written}
 use Rattle.mc_change_text.proofs.print.print_change.Goals as goal
 
 pub print_rows-requires : goal.print_rows-requires

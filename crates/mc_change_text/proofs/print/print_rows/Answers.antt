@@ -4,7 +4,8 @@ use Rattle.mc_write.specs.Text.{Line, line_text}
 use Rattle.mc_rows.specs.Written.{row_line}
 use Rattle.mc_change_text.specs.Kinds.{change_shape}
 use Rattle.mc_change_text.specs.Canonical.{written_row}
-use Rattle.mc_change_text.proofs.Printing.{rows_more, sets_more}
+use Rattle.mc_rows.proofs.Printing.{rows_more}
+use Rattle.mc_change_text.proofs.Printing.{sets_more}
 use Rattle.mc_change_text.proofs.print.print_rows.Goals as goal
 
 pub rows-preserved : goal.rows-preserved

@@ -1,6 +1,6 @@
 use Rattle.std.specs.Prelude.{ℕ, ◌-◌, List, length, slice_get}
 use Rattle.std.proofs.Common.{◌∙◌, ap, arith, sym}
-use Rattle.mc_pattern_text.proofs.RisingSets.{above_last, empty_lacks}
+use Rattle.mc_pattern_text.proofs.Terms.{above_last, empty_lacks}
 use Rattle.mc_pattern_text.proofs.operands.is_member_of.Goals.{then-count-eq0-via-then-count-eq0}
 use Rattle.mc_pattern_text.proofs.operands.is_member_of.Goals.{then-count-eq0-via-else-count-eq0+then-get-number}
 use Rattle.mc_pattern_text.proofs.operands.is_member_of.Goals as goal

@@ -1,12 +1,17 @@
-use Rattle.mc_pattern_text.proofs.Marked.{all_settled, each_settled, same_truth}
+use Rattle.std.specs.Prelude.{◌||◌}
+use Rattle.mc_model.specs.Bits.{bits_of}
+use Rattle.mc_model.specs.Numbers.{is_member}
+use Rattle.mc_text.proofs.Members.{each_name}
+use Rattle.mc_pattern_text.specs.Judge.{is_settled}
+use Rattle.mc_pattern_text.proofs.Marked.{settled_at}
 use Rattle.mc_pattern_text.proofs.steps.settles_each.Goals as goal
 
 pub returns : goal.returns
 returns c = λ measured listed are numbers.
     let names = c.args.names.now in
-    let numbers' = c.args.numbers.now in
+    let marks = bits_of c.args.marks.now in
     let distinct = c.len.ensures.names.distinct in
     let each = rw c.len.ensures.len at c.settles.ensures in
-    same_truth _ _
-    (λ has. all_settled names measured listed _ numbers' distinct are numbers (each.0 has))
-    (λ all. each.1 (each_settled names measured listed _ numbers' distinct are numbers all))
+    each_name names (is_settled measured listed) (λ q. marks q || is_member c.args.numbers.now q) _
+    (λ q d lt. settled_at names measured listed marks c.args.numbers.now q d distinct are numbers lt)
+    each.0 each.1

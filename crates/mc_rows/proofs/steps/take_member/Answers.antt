@@ -1,4 +1,4 @@
-use Rattle.std.proofs.Common.{sym, ◌∙◌, ◌≡◌, ◌&&◌, true, false, None}
+use Rattle.std.proofs.Common.{sym, ◌∙◌, ◌≡◌, false, None}
 use Rattle.mc_rows.specs.Rows.{is_one}
 use Rattle.mc_rows.proofs.Keeping.{both_by}
 use Rattle.mc_rows.proofs.Sets.{member_twice, member_once}

@@ -19,5 +19,5 @@ returns-in-Err-clause-err g c = λ before here h e.
     let k = c.args.self.now in
     let known = known_of k before here in
     rw (← same_lacks k before here c.args.point h e)
-    (c.in-Err.ensures.err known.measured known.listed known.signal known.operand known.commands
+    (c.in-Err.ensures.err known.measured known.listed known.s known.t known.operand known.commands
     h.measured h.outputs)

@@ -17,4 +17,4 @@ pub returns-in-Err-clause-err : goal.returns-in-Err-clause-err
 returns-in-Err-clause-err g c = λ before here h e.
     let k = c.args.self.now in
     rw (← same_judge k before here c.args.point c.args.word.now h e)
-    (c.in-Err.ensures.err _ _ _ _ (stands_at k before here c.args.point h e) h.outputs)
+    (c.in-Err.ensures.err _ _ _ _ _ (stands_at k before here c.args.point h e) h.outputs)

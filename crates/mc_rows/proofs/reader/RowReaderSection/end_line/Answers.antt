@@ -1,8 +1,6 @@
-use Rattle.std.proofs.Common.{◌≡◌, List, None, refl, sym, ap, ◌∙◌}
-use Rattle.mc_rows.specs.declared.row.Row.{Row}
+use Rattle.std.proofs.Common.{◌≡◌, None, refl, sym, ap, ◌∙◌}
 use Rattle.mc_rows.specs.Rows.{role_at}
 use Rattle.mc_rows.specs.Judge.{row_rules, lacks_by}
-use Rattle.mc_rows.specs.Kept.{Passes, IsKept}
 use Rattle.mc_rows.proofs.Keeping.{role_is, line_kept, end_kept, passes}
 use Rattle.mc_rows.proofs.reader.RowReaderSection.end_line.Goals as goal
 
@@ -49,4 +47,4 @@ returns-in-Err-push-clause-err g c = λ before here m e.
     rw same c.in_default.ensures.clean in
     let err = rw c.replace-row.ensures.value at c.in-Err-push.ensures.err in
     rw (err _ m.held_rows (passes kind names (g.K.Rows.holds c.args.self.now.kind)
-    c.args.self.now.row before here c.args.point m e clean)) tt
+    c.args.self.now.row before here c.args.point m e (sym c.ends.ensures ∙ c.if-ends.false) clean)) tt

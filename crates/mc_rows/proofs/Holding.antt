@@ -1,5 +1,5 @@
 -- What holds of the rows of a section without a fault, one row after another.
-use Rattle.std.proofs.Common.{◌≡◌, ℕ, List, [], ◌∷◌, ◌++◌, Bool, true, false, ◌&&◌, Option, Some}
+use Rattle.std.proofs.Common.{◌≡◌, ℕ, List, [], ◌∷◌, ◌++◌, Bool, true, false, ◌&&◌, Some}
 use Rattle.std.proofs.Common.{None, refl, sym, ap, ◌∙◌, subst, inl}
 use Rattle.std.proofs.Common.{map, length}
 use Rattle.std.proofs.lemmas.List.{append-nil}
@@ -10,12 +10,14 @@ use Rattle.mc_model.specs.Names.{Name, is_name, is_held, place_of}
 use Rattle.mc_model.specs.Numbers.{is_member}
 use Rattle.mc_model.specs.Signals.{IsRising, toggled}
 use Rattle.mc_signal.proofs.Members.{is_member-toggled}
+use Rattle.mc_text.specs.declared.head.Head.TheVariants.{End}
 use Rattle.mc_text.specs.Heads.{head_of, head_in, is_end}
 use Rattle.mc_text.specs.Points.{point_of}
-use Rattle.mc_text.specs.Judged.{Judgement, Words, Lines, Place, first_in_section, section_lines}
-use Rattle.mc_text.specs.Rules.{number_in, or_next, listed_name}
+use Rattle.mc_text.specs.Judged.{Words, Lines, Place, first_in_section, section_lines}
+use Rattle.mc_text.specs.Rules.{number_in, known_name, listed_name}
 use Rattle.mc_text.proofs.Going.{head_at}
 use Rattle.mc_text.proofs.Numbers.{held-place, place-held}
+use Rattle.mc_text.proofs.Unbroken.{known_is, listed_is, next_none}
 use Rattle.mc_rows.specs.declared.row.Row.{Row}
 use Rattle.mc_rows.specs.declared.row.Role.{Role}
 use Rattle.mc_rows.specs.declared.row.Role.TheVariants as role
@@ -28,34 +30,12 @@ use Rattle.mc_rows.proofs.Keeping.{took_head, took_number, took_name, took_colon
 use Rattle.mc_rows.proofs.Keeping.{members_of, line_kept, end_kept, begins}
 use Rattle.mc_rows.proofs.RisingSets.{rising_where}
 use Rattle.mc_rows.proofs.Sets.{has-listed, joins_one, joins_name, joined_by}
-use Rattle.mc_graph_text.proofs.CleanSections.{GoesOn, behind_clean}
-
--- a name that is listed here
-record IsListed (names list : List Name) (word : Name) : Type 0 where
-  name : is_name word ≡ true
-  place : (q : ℕ) × (place_of names word ≡ Some q)
-  free : is_held list word ≡ false
-
-listed_is : (names list : List Name) (word : Name) → listed_name names list word ≡ None
-    → IsListed names list word
-listed_is names list word clean =
-    by_tests (is_name word) (is_held names word) (is_held list word) refl refl refl
-  where
-    by_tests : (n h t : Bool) → is_name word ≡ n → is_held names word ≡ h → is_held list word ≡ t
-        → IsListed names list word
-    by_tests false h t e f g = let clean' = rw e at clean in absurd (cc clean')
-    by_tests true false t e f g = let clean' = rw (e, f) at clean in absurd (cc clean')
-    by_tests true true true e f g = let clean' = rw (e, f, g) at clean in absurd (cc clean')
-    by_tests true true false e f g =
-        record { name = e; place = place-held names word f; free = g }
+use Rattle.mc_text.proofs.GoesOn.{GoesOn, behind_clean}
+use Rattle.mc_text.proofs.Sections.{clean_ends}
 
 number_is : (names : List Name) (word : Name) (q : ℕ) → place_of names word ≡ Some q
     → number_in names word ≡ q
 number_is names word q e = rw e refl
-
-next_both : (a b : Option Judgement) → or_next a b ≡ None → (a ≡ None) × (b ≡ None)
-next_both None b e = (refl, e)
-next_both (Some judged) b e = absurd (cc e)
 
 and_right : (a b : Bool) → (a && b) ≡ true → b ≡ true
 and_right true b e = e
@@ -124,17 +104,19 @@ module _ (kind : Kind) (names : List Name) (H : List Row → Type 0) where
       let row = h.row in
       let members = members_in kind.shape here in
       let due = rw e at clean in
-      let both = next_both (listed_name names (named members) word) _ due in
+      let both = next_none (listed_name names (named members) word) _ due in
       let listed = listed_is names (named members) word both.0 in
-      let q = listed.place.0 in
-      let place = listed.place.1 in
+      let is_named = (known_is names word (next_none (known_name names word) _ both.0).0).0 in
+      let found = place-held names word listed.0 in
+      let q = found.0 in
+      let place = found.1 in
       let number = number_is names word q place in
       let are = members_of kind names (Holds before) row before here h.kept in
       let rising : IsRising row.set =
       rw are.set_is
       (rising_where (is_member (map (number_in names) (named members))) (length names)) in
       let absent : is_member row.set q ≡ false =
-      has-listed names members row.set row.constant word q place are ∙ listed.free in
+      has-listed names members row.set row.constant word q place are ∙ listed.1 in
       let bar : (rows : List Row) → Holds before rows → kind.bars.listed rows q ≡ None =
       λ rows held.
       subst (λ (k : ℕ). kind.bars.listed rows k ≡ None) number (rw held.0 both.1) in
@@ -144,9 +126,9 @@ module _ (kind : Kind) (names : List Name) (H : List Row → Type 0) where
         row = row';
         kept = (took_member kind names (Holds before) row row' before here (point_of before here)
             word is
-            (λ rows list held are'. judged_once rows list row.set row.constant q place listed.name
+            (λ rows list held are'. judged_once rows list row.set row.constant q place is_named
             are' absent (bar rows held))
-            (λ list are'. joins_name names list row.set set row.constant word q listed.name place
+            (λ list are'. joins_name names list row.set set row.constant word q is_named place
             are' absent refl)
             (λ rows held p member. joined_by row.set set p q (kind.bars.listed rows p ≡ None)
             (is_member-toggled q row.set p rising) member
@@ -263,11 +245,25 @@ module _ (kind : Kind) (names : List Name) (H : List Row → Type 0) where
           line_by before here h (is_end (point_of before here).head) refl clean;
     }
 
+    rows_read : (lines : List Line) (end : Place) → H []
+        → first_in_section (row_rules kind names) [] lines end ≡ None
+        → IsRead (section_lines lines) []
+    rows_read lines end none clean =
+        let start : IsRead [] [] =
+        record { row = row_of_none; kept = begins kind names (Holds []) (refl, none) } in
+        behind_clean (row_rules kind names) IsRead goes_on lines end start clean
+
     pub rows_hold : (lines : List Line) (end : Place) → H []
         → first_in_section (row_rules kind names) [] lines end ≡ None
         → H (rows_of (section_lines lines))
     rows_hold lines end none clean =
-        let start : IsRead [] [] =
-        record { row = row_of_none; kept = begins kind names (Holds []) (refl, none) } in
-        let h = behind_clean (row_rules kind names) IsRead goes_on lines end start clean in
+        let h = rows_read lines end none clean in
         subst H h.kept.held_rows.0 h.kept.held_rows.1
+
+    -- and the rules of the kind pass the end behind them
+    pub rows_end : (lines : List Line) (end : Place) → H []
+        → first_in_section (row_rules kind names) [] lines end ≡ None
+        → kind.bars.head (rows_of (section_lines lines)) (Some End) ≡ None
+    rows_end lines end none clean =
+        (rows_read lines end none clean).kept.ended
+        (ap is_end (clean_ends (row_rules kind names) lines end clean))
