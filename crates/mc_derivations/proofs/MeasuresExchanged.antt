@@ -10,8 +10,8 @@ use Rattle.mc_model.specs.Valid.{AllDone, prepared, measured, FitsBehind, IsLive
 use Rattle.mc_model.specs.Valid.{IsValid}
 use Rattle.mc_model.specs.Derivation.{Lacks}
 use Rattle.mc_model.proofs.ValidLemmas.{measured-append, prepared-append}
-use Rattle.mc_rules.proofs.RulesKeepValidity.{AllFit, fit_from_valid, fit_split, fit_join}
-use Rattle.mc_rules.proofs.RulesKeepValidity.{all_fit_same, valid_from_fit}
+use Rattle.mc_model.proofs.FittingCommands.{AllFit, fit_from_valid, fit_split, fit_join}
+use Rattle.mc_model.proofs.FittingCommands.{all_fit_same, valid_from_fit}
 
 -- a measurement measures its qubit alone, and prepares none
 unmeasured : (i a : ℕ) (s t : Signal) (q : ℕ) → (q ≡ i → ⊥) →

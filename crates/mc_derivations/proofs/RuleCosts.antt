@@ -14,7 +14,7 @@ use Rattle.mc_model.specs.Derivation.{edges_exchanged, same_cancelled, turned_ca
 use Rattle.mc_model.specs.Derivation.{z_behind_x, turned, x_dropped, z_dropped, part, one_if}
 use Rattle.mc_model.specs.Derivation.{is_wrong, turned_edges, pair_before, wrong_pairs}
 use Rattle.mc_model.specs.Derivation.{count_wrong}
-use Rattle.mc_rules.proofs.WrongPairs.{wrong_one_way, wrong_stays}
+use Rattle.mc_model.proofs.WrongPairs.{wrong_one_way, wrong_stays}
 use Rattle.mc_derivations.specs.Useful.{IsUseful}
 use Rattle.mc_derivations.specs.Effort.{meets, cost, sum_from, pair_sum}
 use Rattle.mc_derivations.proofs.PairSums.{sum_to, Lightens}

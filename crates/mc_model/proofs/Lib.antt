@@ -8,6 +8,9 @@ pub mod PhaseLemmas
 pub mod AmplitudeLemmas
 pub mod AlikeLemmas
 pub mod ValidLemmas
+pub mod FittingCommands
+pub mod CommandOrder
+pub mod WrongPairs
 pub mod PreparationLemmas
 pub mod OddSums
 pub mod Refutation

@@ -1,6 +1,7 @@
 -- Values of signals: of a toggled set, of a sum, at outcomes 0; a rising list of numbers is
 -- determined by its values.
-use Rattle.std.proofs.Common.{◌≡◌, ℕ, ◌<◌, Bool, true, false, cond, List, [], ◌∷◌, refl, sym, ◌∙◌}
+use Rattle.std.proofs.Common.{◌≡◌, ℕ, ◌<◌, Bool, true, false, cond, not, ◌&&◌, List, []}
+use Rattle.std.proofs.Common.{◌∷◌, refl, sym, ◌∙◌}
 use Rattle.std.proofs.Common.{ap, ap₂, arith}
 use Rattle.std.specs.Prelude.{nat_eq, nat_lt}
 use Rattle.std.proofs.lemmas.Bool.{eq-eqb, ne_eqb, cases_Bool, cases_order, eqb-false, eqb-true}
@@ -8,7 +9,7 @@ use Rattle.std.proofs.lemmas.Bool.{ltb-true, ltb-false, false≢true}
 use mathlib.Core.Logic.{inl, inr}
 use Rattle.mc_model.specs.Bits.{◌⊻◌, Bits, parity, all_zero}
 use Rattle.mc_model.specs.Signals.{toggled, toggled_all, AllAbove, IsRising, Signal, Signals, value}
-use Rattle.mc_model.specs.Signals.{signal_sum}
+use Rattle.mc_model.specs.Signals.{signal_sum, is_nil, is_empty, no_signal}
 use Rattle.mc_model.proofs.BitLemmas.{xor_false, xor_twice, xor_left, xor_assoc, xor_middle}
 
 parity-toggled : (q : ℕ) (ps : List ℕ) (o : Bits) → parity (toggled q ps) o ≡ o q ⊻ parity ps o
@@ -121,3 +122,13 @@ toggled_all_rising (q ∷ qs) ps r = toggled_rising q (toggled_all qs ps) (toggl
 -- the signals with that of a qubit replaced
 abbrev pub reset : Signals → ℕ → Signal → Signals
 reset d i s = λ k. cond (nat_eq k i) s (d k)
+
+-- a signal that is empty is the one without members and constant
+pub empty_is_none : (s : Signal) → is_empty s ≡ true → s ≡ no_signal
+empty_is_none s e = parts_none s.members s.constant e
+  where
+    parts_none : (ms : List ℕ) (c : Bool) → (is_nil ms && not c) ≡ true →
+        record { members = ms; constant = c } ≡ no_signal
+    parts_none [] false e = refl
+    parts_none [] true e = absurd (false≢true e)
+    parts_none (q ∷ qs) c e = absurd (false≢true e)

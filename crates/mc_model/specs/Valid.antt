@@ -42,6 +42,14 @@ pub record SignalFits (before : List Command) (s : Signal) : Type 0 where
   pub is_set : IsRising s.members
   pub is_done : AllDone (measured before) s.members
 
+-- the operands of an entangling differ
+abbrev pub OperandsDiffer : Command → Type 0
+OperandsDiffer (Prep q) = ⊤
+OperandsDiffer (Ent i j) = i ≡ j → ⊥
+OperandsDiffer (Meas i a s t) = ⊤
+OperandsDiffer (FixX i s) = ⊤
+OperandsDiffer (FixZ i s) = ⊤
+
 -- the command may stand behind the list `before`
 abbrev pub FitsBehind : ℕ → List Command → Command → Type 0
 FitsBehind inputs before (Prep q) = q ≡ inputs + prepared before

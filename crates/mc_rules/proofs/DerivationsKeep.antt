@@ -154,12 +154,6 @@ derived_qubits inputs (u ∷ uses) cs ds (one_use {ds = es} s more) =
     qubits_on cs es ds (step_qubits inputs u.rule u.place cs es s)
     (derived_qubits inputs uses es ds more)
 
-pub derived_valid : (inputs : ℕ) (uses : List Use) (cs ds : List Command) →
-    Derives inputs uses cs ds → IsValid inputs cs → IsValid inputs ds
-derived_valid inputs [] cs ds no_use v = v
-derived_valid inputs (u ∷ uses) cs ds (one_use {ds = es} s more) v =
-    derived_valid inputs uses es ds more s.to_valid
-
 pub derived_alike : {E : Type 0} (ops : PhaseOps E) → PhaseLaws ops → (o : Bits) (inputs : ℕ)
     (uses : List Use) (cs ds : List Command) → Derives inputs uses cs ds →
     AlikeCommands ops o cs ds

@@ -5,6 +5,7 @@ use Rattle.std.proofs.Common.{[]}
 use Rattle.std.proofs.Common.{◌∷◌, ◌++◌, map, length, refl, sym, ◌∙◌, ap, ap₂, arith}
 use Rattle.std.specs.Prelude.{nat_lt, ⊤}
 use Rattle.std.proofs.lemmas.Bool.{cases_eq, eq-eqb, le-ltb, false≢true}
+use Rattle.std.proofs.lemmas.List.{map-append}
 use mathlib.Core.Path.{subst, subst₂}
 use mathlib.Core.Logic.{inl, inr}
 use Rattle.mc_model.specs.Phase.{PhaseOps, PhaseLaws}
@@ -12,7 +13,7 @@ use Rattle.mc_model.specs.Bits.{Bits}
 use Rattle.mc_model.specs.Signals.{Signal, signal_sum}
 use Rattle.mc_model.specs.Pattern.{Command, Prep, Ent, Meas, FixX, FixZ}
 use Rattle.mc_model.specs.Alike.{AlikeCommands, Disjoint}
-use Rattle.mc_model.specs.Valid.{prepared, measured, FitsBehind, IsValid}
+use Rattle.mc_model.specs.Valid.{prepared, measured, IsValid}
 use Rattle.mc_model.specs.Derivation.{Rule, XE, ZE, XM, ZM, Swap, Join, EE, Cancel, XZ, Turn}
 use Rattle.mc_model.specs.Derivation.{DropEmpty, Rewrites, UsesNot, x_first, x_second, z_first}
 use Rattle.mc_model.specs.Derivation.{z_second, x_measured, z_measured, swapped, x_joined, z_joined}
@@ -20,36 +21,23 @@ use Rattle.mc_model.specs.Derivation.{edges_exchanged, same_cancelled, turned_ca
 use Rattle.mc_model.specs.Derivation.{z_behind_x, turned, x_dropped, z_dropped, Step, part, one_if}
 use Rattle.mc_model.specs.Derivation.{has_later, out_of_order, first_out, rank, IsLower}
 use Rattle.mc_rules.specs.Improves.{Improves, Improvement, Descends}
-use Rattle.mc_rules.specs.Passing.{MayPass}
-use Rattle.mc_rules.specs.Settled.{OperandsDiffer}
-use Rattle.mc_model.specs.StandardForm.{standard_commands}
+use Rattle.mc_rules.specs.Passing.{MayPass, InTurn, TakesTurns, RulesServe}
+use Rattle.mc_rules.specs.Passing.{EarlierPasses}
 use Rattle.mc_model.proofs.AlikeLemmas.{alike_within}
 use Rattle.mc_model.proofs.ValidLemmas.{measured-append, prepared-append, gone_or_live}
 use Rattle.mc_model.proofs.ValidInPlace.{valid_in_place, InPlace, Final}
+use Rattle.mc_model.proofs.FittingCommands.{AllFit, operands_differ}
+use Rattle.mc_model.proofs.FittingCommands.{local_fit}
+use Rattle.mc_model.proofs.CommandOrder.{has-append, none_later}
 use Rattle.mc_rules.proofs.RulesAreAlike.{AllDiffer, rewrites_alike}
-use Rattle.mc_rules.proofs.RulesKeepForm.{Allowed, InTurn, rewrites_same}
-use Rattle.mc_rules.proofs.RulesKeepValidity.{fit_from_valid, fit_split, AllFit, rewrites_valid}
-use Rattle.mc_rules.proofs.RankFalls.{has-append, order-append, old_parts, new_parts, Covered}
+use Rattle.mc_rules.proofs.RulesKeepForm.{Allowed, rewrites_same}
+use Rattle.mc_rules.proofs.RulesKeepValidity.{rewrites_valid}
+use Rattle.mc_rules.proofs.RankFalls.{old_parts, new_parts, Covered}
 use Rattle.mc_rules.proofs.RankFalls.{Moved, parts_fall}
-
-pub differ : (inputs : ℕ) (b : List Command) (c : Command) → FitsBehind inputs b c →
-    OperandsDiffer c
-differ inputs b (Prep q) f = tt
-differ inputs b (Ent i j) f = f.2
-differ inputs b (Meas i a s t) f = tt
-differ inputs b (FixX i s) f = tt
-differ inputs b (FixZ i s) f = tt
 
 all_differ : (inputs : ℕ) (b cs : List Command) → AllFit inputs b cs → AllDiffer cs
 all_differ inputs b [] f = tt
-all_differ inputs b (c ∷ cs) f = (differ inputs b c f.0, all_differ inputs (b ++ (c ∷ [])) cs f.1)
-
-pub local_fit : (inputs : ℕ) (before old behind : List Command) →
-    IsValid inputs (before ++ (old ++ behind)) → AllFit inputs before old
-local_fit inputs before old behind v =
-    (fit_split inputs before old behind
-    (fit_split inputs [] before (old ++ behind)
-    (fit_from_valid inputs [] (before ++ (old ++ behind)) v)).1).0
+all_differ inputs b (c ∷ cs) f = (operands_differ inputs b c f.0, all_differ inputs (b ++ (c ∷ [])) cs f.1)
 
 -- any use of a rule, whatever finds it, keeps what the list does
 pub step_alike : {E : Type 0} (ops : PhaseOps E) → PhaseLaws ops →
@@ -66,10 +54,6 @@ step_alike ops laws o inputs rule place cs ds s =
     subst (λ (xs : List Command). AlikeCommands ops o xs ds) (sym s.from_list)
     (subst (λ (ys : List Command). AlikeCommands ops o (s.before ++ (s.old ++ s.behind)) ys)
     (sym s.to_list) h)
-
-pub map-append : (xs ys : List Command) → map part (xs ++ ys) ≡ map part xs ++ map part ys
-map-append [] ys = refl
-map-append (x ∷ xs) ys = ap (λ (rest : List ℕ). part x ∷ rest) (map-append xs ys)
 
 -- what a rule leaves of two neighbours out of order
 pub record Leaves (c d : Command) (new : List Command) : Type 0 where
@@ -95,18 +79,6 @@ covered_twice p = λ r e. twice (nat_lt r p) e
 none_settled : (b : List ℕ) → out_of_order b [] ≡ 0
 unfolding out_of_order
 none_settled b = refl
-
-zero_parts : (t : Bool) (a n : ℕ) → a + (one_if t + n) ≡ 0 → t ≡ false
-zero_parts false a n h = refl
-zero_parts true a n h = absurd (omega arith)
-
--- nothing before is later than `p`
-pub none_later : (before : List ℕ) (p : ℕ) → out_of_order [] (before ++ (p ∷ [])) ≡ 0 →
-    has_later p before ≡ false
-unfolding out_of_order
-none_later before p h =
-    zero_parts (has_later p before) (out_of_order [] before) 0
-    (sym (order-append [] before (p ∷ [])) ∙ h)
 
 still_none : (before : List ℕ) (p q : ℕ) → has_later p before ≡ false → q ≤ p →
     has_later p (before ++ (q ∷ [])) ≡ false
@@ -211,7 +183,7 @@ measured_here b i a s t = measured-append b (Meas i a s t ∷ []) i
     or_true false = refl
 
 -- what validity says of two neighbours
-pub may_pass : (inputs : ℕ) (b : List Command) (c d : Command) → AllFit inputs b (c ∷ d ∷ []) →
+may_pass : (inputs : ℕ) (b : List Command) (c d : Command) → AllFit inputs b (c ∷ d ∷ []) →
     part d < part c → MayPass c d
 unfolding prepared
 may_pass inputs b (Prep q) (Prep r) f h = absurd (omega arith)
@@ -231,6 +203,10 @@ may_pass inputs b (Meas i a s t) (Ent j k) f h =
       gone_or_live inputs (b ++ (Meas i a s t ∷ [])) i k gone f.1.0.1,
     )
 may_pass inputs b c d f h = tt
+
+pub earlier_passes : EarlierPasses
+earlier_passes inputs before c d behind v h =
+    may_pass inputs before c d (local_fit inputs before (c ∷ d ∷ []) behind v) h
 
 -- a rule for two neighbours, and what they become
 pub record Passes (c d : Command) : Type 0 where
@@ -284,13 +260,6 @@ passes (FixZ i s) d m h = absurd (omega arith)
 
 -- ---- a use of a rule in a valid list
 
--- two commands that are not both preparations, nor both measurements
-abbrev pub TakesTurns : List Command → Type 0
-TakesTurns [] = ⊤
-TakesTurns (c ∷ []) = ⊤
-TakesTurns (c ∷ d ∷ []) = InTurn c d
-TakesTurns (c ∷ d ∷ e ∷ cs) = ⊤
-
 -- nothing behind acts on the qubit that the second of two measures
 abbrev pub SecondFinal : List Command → List Command → Type 0
 SecondFinal [] behind = ⊤
@@ -325,19 +294,16 @@ allowed inputs b DropEmpty _ _ behind (x_dropped {i}) f m turns = tt
 allowed inputs b DropEmpty _ _ behind (z_dropped {i}) f m turns = tt
 
 -- a rule may be used wherever its commands stand in a valid list, and keeps the standard form
-pub used : (inputs : ℕ) (rule : Rule) (before old new behind : List Command) →
-    Rewrites rule old new → TakesTurns old → IsValid inputs (before ++ (old ++ behind)) →
-    Step inputs rule (suc (length before)) (before ++ (old ++ behind)) (before ++ (new ++ behind))
-    × (standard_commands inputs (before ++ (old ++ behind))
-    ≡ standard_commands inputs (before ++ (new ++ behind)))
+pub used : RulesServe
 used inputs rule before old new behind r t v =
     let n : ℕ = inputs + prepared (before ++ (old ++ behind)) in
     let place : InPlace n (old ++ behind) =
     valid_in_place inputs n before (old ++ behind) v (omega arith) in
     let ok : Allowed r behind =
     allowed inputs before rule old new behind r (local_fit inputs before old behind v)
-    (second_final n old behind place) t in (
-      record {
+    (second_final n old behind place) t in
+    record {
+      step = record {
         before = before;
         old = old;
         new = new;
@@ -348,9 +314,9 @@ used inputs rule before old new behind r t v =
         to_list = refl;
         from_valid = v;
         to_valid = rewrites_valid inputs rule before old new behind r ok v;
-      },
-      rewrites_same inputs rule before old new behind r ok,
-    )
+      };
+      same = rewrites_same inputs rule before old new behind r ok;
+    }
 
 -- the rank, by its first two numbers
 descends_first : (x y : List Command) →
@@ -385,15 +351,15 @@ new_shape : (before new behind : List Command) (q : ℕ) (tail : List ℕ) → m
     map part (before ++ (new ++ behind)) ≡ new_parts (map part before) q tail (map part behind)
 unfolding new_parts
 new_shape before new behind q tail e =
-    map-append before (new ++ behind)
+    map-append part before (new ++ behind)
     ∙ ap (λ (rest : List ℕ). map part before ++ rest)
-    (map-append new behind ∙ ap (λ (ps : List ℕ). ps ++ map part behind) e)
+    (map-append part new behind ∙ ap (λ (ps : List ℕ). ps ++ map part behind) e)
 
 old_shape : (before : List Command) (c d : Command) (behind : List Command) →
     map part (before ++ (c ∷ d ∷ behind))
     ≡ old_parts (map part before) (part c) (part d) (map part behind)
 unfolding old_parts
-old_shape before c d behind = map-append before (c ∷ d ∷ behind)
+old_shape before c d behind = map-append part before (c ∷ d ∷ behind)
 
 turns_out_of_order : (c d : Command) → part d < part c → InTurn c d
 turns_out_of_order (Prep q) (Prep r) h = absurd (omega arith)
@@ -411,7 +377,7 @@ moved inputs rule before c d new behind r v z h =
     let step = used inputs rule before (c ∷ d ∷ []) new behind r (turns_out_of_order c d h) v in
     let left : Leaves c d new = leaves rule c d new r h in
     let order : out_of_order [] (map part before ++ (part c ∷ [])) ≡ 0 =
-    sym (ap (out_of_order []) (map-append before (c ∷ []))) ∙ z in
+    sym (ap (out_of_order []) (map-append part before (c ∷ []))) ∙ z in
     let moves : Moved (map part before) (part c) (part d) left.tail =
     record {
       in_order = order;
@@ -425,11 +391,11 @@ moved inputs rule before c d new behind r v z h =
     (sym (old_shape before c d behind))
     (parts_fall (map part before) (part c) (part d) (map part behind) left.tail moves) in
     record {
-      step = step.0;
+      step = step.step;
       lower = lower_first (before ++ (new ++ behind)) (before ++ (c ∷ d ∷ behind)) falls;
       descends = descends_first (before ++ (new ++ behind)) (before ++ (c ∷ d ∷ behind)) falls;
       grows = one_longer before new c d behind left.short;
-      same = step.1;
+      same = step.same;
     }
 
 -- the first command out of order moves one place to the front
@@ -438,8 +404,7 @@ pub move_improves : (inputs : ℕ) (before : List Command) (c d : Command) (behi
     out_of_order [] (map part (before ++ (c ∷ []))) ≡ 0 → part d < part c →
     Improves inputs (before ++ (c ∷ d ∷ behind))
 move_improves inputs before c d behind v z h =
-    let f : AllFit inputs before (c ∷ d ∷ []) = local_fit inputs before (c ∷ d ∷ []) behind v in
-    let p : Passes c d = passes c d (may_pass inputs before c d f h) h in
+    let p : Passes c d = passes c d (earlier_passes inputs before c d behind v h) h in
     record {
       rule = p.rule;
       place = suc (length before);

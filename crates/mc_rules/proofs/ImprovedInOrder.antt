@@ -3,6 +3,7 @@ use Rattle.std.proofs.Common.{◌≡◌, ℕ, suc, ◌+◌, ◌<◌, ◌≤◌, 
 use Rattle.std.proofs.Common.{◌∷◌, ◌++◌, map, length, refl, sym, ◌∙◌, ap, ap₂, arith, ◌⊎◌}
 use Rattle.std.specs.Prelude.{nat_eq, nat_lt}
 use Rattle.std.proofs.lemmas.Bool.{cases_eq, ltb-true, or_cases, and_parts, false≢true}
+use Rattle.std.proofs.lemmas.List.{map-append}
 use mathlib.Core.Logic.{inl, inr}
 use Rattle.mc_model.specs.Signals.{Signal, signal_sum}
 use Rattle.mc_model.specs.Pattern.{Command, Prep, Ent, Meas, FixX, FixZ}
@@ -11,11 +12,11 @@ use Rattle.mc_model.specs.Derivation.{Rule, Swap, EE, XZ, Turn, Rewrites, swappe
 use Rattle.mc_model.specs.Derivation.{z_behind_x, turned, part, has_later, out_of_order, first_out}
 use Rattle.mc_model.specs.Derivation.{wrong_pairs, turned_edges, rank, IsLower, is_wrong}
 use Rattle.mc_model.specs.Derivation.{pair_before}
+use Rattle.mc_model.proofs.WrongPairs.{wrong_falls, wrong_stays, turned_falls}
 use Rattle.mc_rules.specs.Improves.{Descends, Improves, Improvement}
-use Rattle.mc_rules.proofs.RulesKeepForm.{InTurn}
+use Rattle.mc_rules.specs.Passing.{TakesTurns, InTurn}
 use Rattle.mc_rules.proofs.RankFalls.{Covered, shorter_in_order, first_none}
-use Rattle.mc_rules.proofs.WrongPairs.{wrong_falls, wrong_stays, turned_falls}
-use Rattle.mc_rules.proofs.FirstOutOfOrder.{map-append, TakesTurns, used}
+use Rattle.mc_rules.proofs.FirstOutOfOrder.{used}
 
 -- two neighbours may be exchanged
 pub record Exchanges (c d : Command) : Type 0 where
@@ -65,9 +66,9 @@ exchanged_parts : (before : List Command) (c d : Command) (behind : List Command
     part c ≡ part d →
     map part (before ++ (d ∷ c ∷ behind)) ≡ map part (before ++ (c ∷ d ∷ behind))
 exchanged_parts before c d behind e =
-    map-append before (d ∷ c ∷ behind)
+    map-append part before (d ∷ c ∷ behind)
     ∙ ap₂ (λ (p q : ℕ). map part before ++ (p ∷ q ∷ map part behind)) (sym e) e
-    ∙ sym (map-append before (c ∷ d ∷ behind))
+    ∙ sym (map-append part before (c ∷ d ∷ behind))
 
 length-append : (xs ys : List Command) → length (xs ++ ys) ≡ length xs + length ys
 length-append [] ys = omega arith
@@ -133,12 +134,12 @@ exchanged inputs rule before c d behind r v z h =
     let parts = exchanged_parts before c d behind (one_part c d h) in
     let size = exchanged_length before c d behind in
     record {
-      step = step.0;
+      step = step.step;
       lower = lower_wrong _ _ parts size (wrong_falls c d before behind h);
       descends = descends_in_order (before ++ (d ∷ c ∷ behind)) (before ++ (c ∷ d ∷ behind))
           (ap (out_of_order []) parts ∙ z) z (inr (size, inl (wrong_falls c d before behind h)));
       grows = omega arith;
-      same = step.1;
+      same = step.same;
     }
 
 pub exchange_improves : (inputs : ℕ) (before : List Command) (c d : Command) (behind : List Command)
@@ -156,8 +157,8 @@ exchange_improves inputs before c d behind v z h =
 
 turned_parts : (before : List Command) (i j : ℕ) (behind : List Command) →
     map part (before ++ (Ent j i ∷ behind)) ≡ map part (before ++ (Ent i j ∷ behind))
-turned_parts before i j behind = map-append before (Ent j i ∷ behind)
-    ∙ sym (map-append before (Ent i j ∷ behind))
+turned_parts before i j behind = map-append part before (Ent j i ∷ behind)
+    ∙ sym (map-append part before (Ent i j ∷ behind))
 
 turned_length : (before : List Command) (i j : ℕ) (behind : List Command) →
     length (before ++ (Ent j i ∷ behind)) ≡ length (before ++ (Ent i j ∷ behind))
@@ -177,12 +178,12 @@ turned_round inputs before i j behind v z h =
     let wrong = sym (wrong_stays i j before behind) in
     let falls = turned_falls i j before behind h in
     record {
-      step = step.0;
+      step = step.step;
       lower = lower_turned _ _ parts size wrong falls;
       descends = descends_in_order (before ++ (Ent j i ∷ behind)) (before ++ (Ent i j ∷ behind))
           (ap (out_of_order []) parts ∙ z) z (inr (size, inr (wrong, falls)));
       grows = omega arith;
-      same = step.1;
+      same = step.same;
     }
 
 pub turn_improves : (inputs : ℕ) (before : List Command) (i j : ℕ) (behind : List Command) →
@@ -205,8 +206,8 @@ pub record Shortens (old new : List Command) : Type 0 where
 
 split_parts : (before mid behind : List Command) →
     map part (before ++ (mid ++ behind)) ≡ map part before ++ (map part mid ++ map part behind)
-split_parts before mid behind = map-append before (mid ++ behind)
-    ∙ ap (λ (rest : List ℕ). map part before ++ rest) (map-append mid behind)
+split_parts before mid behind = map-append part before (mid ++ behind)
+    ∙ ap (λ (rest : List ℕ). map part before ++ rest) (map-append part mid behind)
 
 shorter_length : (before old new behind : List Command) → length new < length old →
     length (before ++ (new ++ behind)) < length (before ++ (old ++ behind))
@@ -232,12 +233,12 @@ shortened inputs rule before old new behind r v z s =
     (s.no_later (map part before)) old_zero in
     let size = shorter_length before old new behind s.shorter in
     record {
-      step = step.0;
+      step = step.step;
       lower = lower_size _ _ new_zero z size;
       descends = descends_in_order (before ++ (new ++ behind)) (before ++ (old ++ behind))
           new_zero z (inl size);
       grows = omega arith;
-      same = step.1;
+      same = step.same;
     }
 
 pub shorten_improves : (inputs : ℕ) (rule : Rule) (before old new behind : List Command) →

@@ -21,4 +21,3 @@ pub mod StandardSize
 pub mod Stripped
 pub mod UsesLeft
 pub mod WithoutConstants
-pub mod WrongPairs

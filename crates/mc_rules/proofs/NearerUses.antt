@@ -14,14 +14,14 @@ use Rattle.mc_model.specs.Derivation.{z_behind_x, turned, x_dropped, z_dropped, 
 use Rattle.mc_rules.specs.Improves.{Improvement}
 use Rattle.mc_rules.specs.Nearer.{PassingImproves, SettlingTwoImproves, SettlingOneImproves}
 use Rattle.mc_rules.specs.Settled.{InOrder}
-use Rattle.mc_rules.proofs.FirstOutOfOrder.{may_pass, moved, local_fit}
+use Rattle.mc_rules.proofs.FirstOutOfOrder.{earlier_passes, moved}
 use Rattle.mc_rules.proofs.ImprovedInOrder.{Shortens, join_x_shortens, join_z_shortens}
 use Rattle.mc_rules.proofs.ImprovedInOrder.{cancel_shortens, drop_x_shortens, drop_z_shortens}
 use Rattle.mc_rules.proofs.ImprovedInOrder.{shortened, exchanged, turned_round}
 
 pub passing_improves : PassingImproves
 passing_improves inputs rule before c d new behind v order less rewrites =
-    let may = may_pass inputs before c d (local_fit inputs before (c ∷ d ∷ []) behind v) less in
+    let may = earlier_passes inputs before c d behind v less in
     moved inputs rule before c d new behind (rewrites may) v order less
 
 fewer_shortens : (rule : Rule) (c d : Command) (new : List Command) →

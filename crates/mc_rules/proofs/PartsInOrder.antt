@@ -4,13 +4,13 @@ use Rattle.std.proofs.Common.{◌∙◌}
 use Rattle.std.proofs.Common.{ap, subst, arith, append_assoc}
 use Rattle.std.specs.Prelude.{nat_lt}
 use Rattle.std.proofs.lemmas.Bool.{or_parts, ltb-false}
+use Rattle.std.proofs.lemmas.List.{map-append}
 use Rattle.mc_model.specs.Pattern.{Command}
 use Rattle.mc_model.specs.Derivation.{part, has_later, out_of_order}
+use Rattle.mc_model.proofs.CommandOrder.{none_later, has-append, order-append, next_order}
+use Rattle.mc_model.proofs.CommandOrder.{front_order}
 use Rattle.mc_rules.specs.Nearer.{PartsInOrder}
 use Rattle.mc_rules.specs.Settled.{InOrder}
-use Rattle.mc_rules.proofs.FirstOutOfOrder.{map-append, none_later}
-use Rattle.mc_rules.proofs.RankFalls.{has-append, order-append}
-use Rattle.mc_rules.proofs.SettledOrImproved.{next_order, front_order}
 
 none_in_order : InOrder []
 unfolding out_of_order
@@ -24,7 +24,7 @@ front_in_order : (cs ds : List Command) → InOrder (cs ++ ds) → InOrder cs
 front_in_order cs ds z =
     let split = order-append [] (map part cs) (map part ds) in
     let sum : out_of_order [] (map part cs ++ map part ds) ≡ 0 =
-    sym (ap (out_of_order []) (map-append cs ds)) ∙ z in
+    sym (ap (out_of_order []) (map-append part cs ds)) ∙ z in
     omega arith
 
 neighbours_rise : (before : List Command) (c d : Command) (behind : List Command) →
@@ -37,8 +37,8 @@ neighbours_rise before c d behind z =
     let front = front_order (before ++ (c ∷ [])) d behind (subst InOrder e z) in
     let named : map part ((before ++ (c ∷ [])) ++ (d ∷ []))
     ≡ (ps ++ (part c ∷ [])) ++ (part d ∷ []) =
-    map-append (before ++ (c ∷ [])) (d ∷ [])
-    ∙ ap (λ (xs : List ℕ). xs ++ (part d ∷ [])) (map-append before (c ∷ [])) in
+    map-append part (before ++ (c ∷ [])) (d ∷ [])
+    ∙ ap (λ (xs : List ℕ). xs ++ (part d ∷ [])) (map-append part before (c ∷ [])) in
     let none = none_later (ps ++ (part c ∷ [])) (part d)
     (sym (ap (out_of_order []) named) ∙ front) in
     let parts = or_parts (has_later (part d) ps) (nat_lt (part d) (part c) || false)

@@ -11,10 +11,10 @@ use Rattle.mc_model.specs.Derivation.{DropEmpty, Rewrites, x_first, x_second, z_
 use Rattle.mc_model.specs.Derivation.{x_measured, z_measured, swapped, x_joined, z_joined}
 use Rattle.mc_model.specs.Derivation.{edges_exchanged, same_cancelled, turned_cancelled, x_behind_z}
 use Rattle.mc_model.specs.Derivation.{z_behind_x, turned, x_dropped, z_dropped}
+use Rattle.mc_model.specs.Valid.{OperandsDiffer}
 use Rattle.mc_model.proofs.PhaseLemmas.{sign-twice}
 use Rattle.mc_model.proofs.BitLemmas.{xor_comm}
 use Rattle.mc_model.proofs.AlikeLemmas.{alike_back, alike_on, alike_within}
-use Rattle.mc_rules.specs.Settled.{OperandsDiffer}
 use Rattle.mc_rules.proofs.NeighbourLaws as Local
 use Rattle.mc_model.proofs.ExchangeLaws.{exchange}
 

@@ -25,6 +25,7 @@ use Rattle.mc_model.proofs.SignalLemmas.{value-sum}
 use Rattle.mc_model.proofs.ValidLemmas.{measured-append, prepared-append}
 use Rattle.mc_model.proofs.ValidInPlace.{AllMiss}
 use Rattle.mc_model.proofs.SignalValues.{same_signals}
+use Rattle.mc_rules.specs.Passing.{InTurn}
 use Rattle.mc_rules.proofs.PlaceSums.{total, total-append, first_bit, second_bit, x_bit, onward}
 use Rattle.mc_rules.proofs.PlaceSums.{behind_all, second_total, second-append, x_missed}
 use Rattle.mc_rules.proofs.PlaceSums.{second_unread, second_all_unread, value-first_sum}
@@ -207,12 +208,6 @@ or_comm false false = refl
 
 pair_turned : (i j q r : ℕ) → same_pair i j q r ≡ same_pair i j r q
 pair_turned i j q r = or_comm (nat_eq i q && nat_eq j r) (nat_eq i r && nat_eq j q)
-
--- two commands that are not both preparations, nor both measurements
-abbrev pub InTurn : Command → Command → Type 0
-InTurn (Prep q) (Prep r) = ⊥
-InTurn (Meas q a s t) (Meas r b u v) = ⊥
-InTurn c d = ⊤
 
 x_edge_first : (o : Bits) (q i j : ℕ) (s : Signal) (px : Bits) → (i ≡ j → ⊥) →
     second_total o q px (FixX i s ∷ Ent i j ∷ [])

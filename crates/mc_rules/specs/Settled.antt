@@ -12,14 +12,6 @@ IsTidy (Meas q a s t) = ⊤
 IsTidy (FixX q s) = is_empty s ≡ false
 IsTidy (FixZ q s) = is_empty s ≡ false
 
--- the operands of an entangling differ
-abbrev pub OperandsDiffer : Command → Type 0
-OperandsDiffer (Prep q) = ⊤
-OperandsDiffer (Ent i j) = i ≡ j → ⊥
-OperandsDiffer (Meas i a s t) = ⊤
-OperandsDiffer (FixX i s) = ⊤
-OperandsDiffer (FixZ i s) = ⊤
-
 -- the second may stand right behind the first
 abbrev pub Follows : Command → Command → Type 0
 Follows (Prep q) d = ⊤

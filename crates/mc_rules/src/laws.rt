@@ -7,6 +7,7 @@ ghost use Rattle.mc_rules.specs.Laws.{SettledIsStandard};
 ghost use Rattle.mc_rules.specs.Nearer.{PassingImproves, SettlingTwoImproves, SettlingOneImproves};
 ghost use Rattle.mc_rules.specs.Nearer.{ImprovementsEnd, PartsInOrder};
 ghost use Rattle.mc_rules.specs.OnePass.{OnePass};
+ghost use Rattle.mc_rules.specs.Passing.{RulesServe, EarlierPasses};
 
 /// At every outcome list a pattern and its standard form have branch maps that are alike, with one
 /// phase for all entries.
@@ -63,4 +64,11 @@ pub fn rules_improve()
 /// Parts in order are a matter of neighbours.
 pub fn parts_in_order()
     ensures { PartsInOrder }
+{}
+
+/// Where a rule may be used in a valid list, which command may pass the one before it, and that the
+/// use keeps the standard form.
+pub fn rules_serve()
+    ensures anywhere { RulesServe }
+    ensures passing { EarlierPasses }
 {}

@@ -6,7 +6,7 @@
 mod laws;
 
 pub use laws::{
-    derivations_keep_patterns, one_pass, parts_in_order, rules_improve, settled_is_standard,
-    standard_is_alike, standard_is_standard, standard_keeps_zero_branch, step_is_alike,
-    steps_lead_to_standard,
+    derivations_keep_patterns, one_pass, parts_in_order, rules_improve, rules_serve,
+    settled_is_standard, standard_is_alike, standard_is_standard, standard_keeps_zero_branch,
+    step_is_alike, steps_lead_to_standard,
 };

@@ -7,7 +7,7 @@ use Rattle.std.proofs.Math.Seq.{get_or-append_seam, take-append_seam, drop-appen
 use Rattle.std.proofs.Math.Seq.{take-append-add}
 use Rattle.std.proofs.Math.ListN.{get_or-map}
 use Rattle.mc_model.specs.Pattern.{Command}
-use Rattle.mc_model.specs.Valid.{IsValid}
+use Rattle.mc_model.specs.Valid.{IsValid, OperandsDiffer}
 use Rattle.mc_model.specs.Derivation.{Rule, Cancel}
 use Rattle.mc_model.specs.Derivation.{part}
 use Rattle.mc_standard.specs.declared.change.Change.{Change}
@@ -16,7 +16,7 @@ use Rattle.mc_standard.specs.declared.change.Rewrite.{Rewrite}
 use Rattle.mc_standard.specs.Changes.{reach, changed, Passes, SettlesTwo, SettlesOne}
 use Rattle.mc_rules.specs.Improves.{Improvement}
 use Rattle.mc_standard.specs.Places.{part_at, PassesAt, SettlesAt, IsTidyAt, FollowsAt}
-use Rattle.mc_rules.specs.Settled.{OperandsDiffer, IsTidy, Follows, InOrder}
+use Rattle.mc_rules.specs.Settled.{IsTidy, Follows, InOrder}
 use Rattle.mc_standard.specs.Uses.{plain_rule}
 use Rattle.mc_standard.proofs.Edits.{one_at, two_at}
 use Rattle.mc_rules.proofs.NearerUses.{passing_improves, settling_two_improves}

@@ -9,17 +9,17 @@ use Rattle.std.proofs.Math.Seq.{take-append-add}
 use mathlib.Core.Logic.{inl, inr}
 use Rattle.mc_model.specs.Pattern.{Command}
 use Rattle.mc_model.specs.Derivation.{Rule, Use, part, has_later, out_of_order}
+use Rattle.mc_model.proofs.FittingCommands.{operands_differ}
+use Rattle.mc_model.proofs.CommandOrder.{order-append, next_order}
 use Rattle.mc_pattern.specs.Commands.{plain_command}
 use Rattle.mc_pattern.specs.declared.command.Command.{Command as Coded}
 use Rattle.mc_standard.specs.Places.{part_at, IsEarly, SettlesAt, IsTidyAt, FollowsAt, StaysSettled}
 use Rattle.mc_standard.specs.Places.{Settles}
 use Rattle.mc_rules.specs.Settled.{IsTidy, Follows, IsSettled, InOrder}
 use Rattle.mc_standard.proofs.Edits.{two_at}
-use Rattle.mc_rules.proofs.FirstOutOfOrder.{differ, map-append}
+use Rattle.mc_rules.proofs.FirstOutOfOrder.{map-append}
 use Rattle.mc_standard.proofs.ImprovedAtPlace.{part_here, part_next}
 use Rattle.mc_rules.proofs.PartsInOrder.{parts_in_order}
-use Rattle.mc_rules.proofs.RankFalls.{order-append}
-use Rattle.mc_rules.proofs.SettledOrImproved.{next_order}
 
 -- ---- reads of a list through a map
 
@@ -115,7 +115,7 @@ stays_on cs i j k h g = λ inputs v order s. g inputs v order (h inputs v order 
 stays_first : (cs : List Command) → 0 < length cs → IsTidyAt 0 cs → StaysSettled 0 (0 + 1) cs
 stays_first [] h tidy = absurd (omega arith)
 stays_first (c ∷ cs) h tidy = λ inputs v order s.
-    (tidy [] c cs refl refl (differ inputs [] c (v.at [] c cs refl)), tt, tt)
+    (tidy [] c cs refl refl (operands_differ inputs [] c (v.at [] c cs refl)), tt, tt)
 
 stays_next : (cs : List Command) (k : ℕ) → suc k < length cs → IsTidyAt (suc k) cs →
     FollowsAt k cs → StaysSettled (suc k) (suc k + 1) cs
@@ -134,7 +134,7 @@ stays_next cs k within tidy follows =
     let long : suc k ≡ length (p.before ++ (p.here ∷ [])) =
     let e = length-append p.before (p.here ∷ []) in omega arith in
     λ inputs v order s.
-    let apart = differ inputs (p.before ++ (p.here ∷ [])) p.next (v.at _ p.next p.behind split) in
+    let apart = operands_differ inputs (p.before ++ (p.here ∷ [])) p.next (v.at _ p.next p.behind split) in
     let rise = parts_in_order.rise p.before p.here p.next p.behind (subst InOrder p.is order) in
     subst IsSettled (sym whole)
     (settled_more p.before p.here p.next (subst IsSettled front s)

@@ -7,6 +7,7 @@ use Rattle.mc_model.specs.Signals.{Signal}
 use Rattle.mc_model.specs.Alike.{Disjoint, Misses}
 use Rattle.mc_model.specs.Derivation.{Cancel, Rewrites, UsesNot, swapped, same_cancelled}
 use Rattle.mc_model.specs.Derivation.{turned_cancelled, part, lower, higher, pair_before, is_wrong}
+use Rattle.mc_model.proofs.CommandOrder.{before_by, same_ends}
 use Rattle.mc_pattern.specs.Commands.{plain_command}
 use Rattle.mc_pattern.specs.declared.command.Command.{Command as Coded}
 use Rattle.mc_pattern.specs.declared.command.Command.TheVariants as coded
@@ -16,7 +17,6 @@ use Rattle.mc_standard.specs.declared.rule.Rule.TheVariants as rule
 use Rattle.mc_standard.specs.Changes.{Passes, SettlesTwo}
 use Rattle.mc_rules.specs.Passing.{MayPass}
 use Rattle.mc_standard.specs.Uses.{plain_rule}
-use Rattle.mc_rules.proofs.SettledOrImproved.{before_by, same_ends}
 
 -- commands without a common operand change places
 pub swaps : {h : ℕ} (rewrite : Rewrite h) (c d : Command) → rewrite.rule ≡ rule.Swap →

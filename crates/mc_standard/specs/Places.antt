@@ -2,10 +2,10 @@
 use Rattle.std.specs.Prelude.{◌≡◌, ℕ, ◌-◌, ◌<◌, ◌≤◌, List, ◌∷◌, ◌++◌, length, map, take}
 use Rattle.std.specs.Prelude.{slice_index}
 use Rattle.mc_model.specs.Pattern.{Command}
-use Rattle.mc_model.specs.Valid.{IsValid}
+use Rattle.mc_model.specs.Valid.{IsValid, OperandsDiffer}
 use Rattle.mc_model.specs.Derivation.{Rule, Use, part}
 use Rattle.mc_rules.specs.Improves.{Improvement}
-use Rattle.mc_rules.specs.Settled.{OperandsDiffer, IsTidy, Follows, IsSettled, InOrder}
+use Rattle.mc_rules.specs.Settled.{IsTidy, Follows, IsSettled, InOrder}
 
 -- the command at the place `k`, counted from 0, is of an earlier part than the one before it
 abbrev pub part_at : List Command → ℕ → ℕ

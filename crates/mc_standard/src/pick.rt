@@ -4,9 +4,10 @@ ghost use Rattle.std.specs.Prelude.{◌≡◌, ◌≤◌, ◌<◌, ◌||◌, ◌
 ghost use Rattle.mc_model.specs.Derivation.{part, lower, higher, pair_before};
 ghost use Rattle.mc_model.specs.Pattern.{Ent, FixX, FixZ};
 ghost use Rattle.mc_model.specs.Signals.{signal_sum};
+ghost use Rattle.mc_model.specs.Valid.{OperandsDiffer};
 ghost use Rattle.mc_pattern.specs.Commands.{plain_command};
 ghost use Rattle.mc_standard.specs.Changes.{Passes, SettlesTwo, SettlesOne};
-ghost use Rattle.mc_rules.specs.Settled.{Follows, IsTidy, OperandsDiffer};
+ghost use Rattle.mc_rules.specs.Settled.{Follows, IsTidy};
 
 use crate::change::{Change, Rewrite};
 use crate::rule::Rule;

@@ -15,9 +15,11 @@ use Rattle.mc_model.specs.Derivation.{z_second, x_measured, z_measured, swapped,
 use Rattle.mc_model.specs.Derivation.{edges_exchanged, same_cancelled, turned_cancelled, z_behind_x}
 use Rattle.mc_model.specs.Derivation.{turned, x_dropped, z_dropped, part, lower, higher}
 use Rattle.mc_model.specs.Derivation.{pair_before, is_wrong, is_turned}
+use Rattle.mc_model.specs.Valid.{OperandsDiffer}
+use Rattle.mc_model.proofs.SignalLemmas.{empty_is_none}
+use Rattle.mc_model.proofs.CommandOrder.{same_ends, before_by}
 use Rattle.mc_rules.specs.Passing.{MayPass}
-use Rattle.mc_rules.specs.Settled.{IsTidy, Follows, OperandsDiffer}
-use Rattle.mc_rules.proofs.SettledOrImproved.{none_in, same_ends, before_by}
+use Rattle.mc_rules.specs.Settled.{IsTidy, Follows}
 use Rattle.mc_standard.specs.declared.rule.Rule.{Rule as Coded}
 use Rattle.mc_standard.specs.declared.rule.Rule.TheVariants as coded
 use Rattle.mc_standard.specs.Uses.{plain_rule}
@@ -130,11 +132,11 @@ one_helps (Ent i j) rule e =
 one_helps (Meas q a s t) rule e = none_chosen (HelpsOne (Meas q a s t)) rule e
 one_helps (FixX q s) rule e =
     by_test (HelpsOne (FixX q s)) (is_empty s) coded.DropEmpty None rule e
-    (λ t. helps_drop (FixX q s) (rw (none_in s t) x_dropped))
+    (λ t. helps_drop (FixX q s) (rw (empty_is_none s t) x_dropped))
     (λ f g. none_chosen (HelpsOne (FixX q s)) rule g)
 one_helps (FixZ q s) rule e =
     by_test (HelpsOne (FixZ q s)) (is_empty s) coded.DropEmpty None rule e
-    (λ t. helps_drop (FixZ q s) (rw (none_in s t) z_dropped))
+    (λ t. helps_drop (FixZ q s) (rw (empty_is_none s t) z_dropped))
     (λ f g. none_chosen (HelpsOne (FixZ q s)) rule g)
 
 -- ---- two neighbours

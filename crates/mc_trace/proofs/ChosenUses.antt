@@ -4,8 +4,9 @@ use Rattle.std.proofs.Common.{get_or, refl, sym, ◌∙◌, ap, subst, arith, ap
 use Rattle.std.specs.Prelude.{Option, Some, None, MatchOption}
 use Rattle.mc_model.specs.Pattern.{Command}
 use Rattle.mc_model.specs.Valid.{IsValid}
+use Rattle.mc_model.proofs.FittingCommands.{operands_differ, local_fit}
 use Rattle.mc_rules.specs.Settled.{IsTidy, FirstFollows, IsSettled}
-use Rattle.mc_rules.proofs.FirstOutOfOrder.{differ, may_pass, local_fit}
+use Rattle.mc_rules.proofs.FirstOutOfOrder.{may_pass}
 use Rattle.mc_standard.specs.declared.rule.Rule.{Rule as Coded}
 use Rattle.mc_standard.specs.Uses.{plain_rule}
 use Rattle.mc_trace.specs.Choosing.{HelpsAt, IsDoneAt, IsSomewhereValid}
@@ -33,7 +34,7 @@ tidy_there : (inputs : ℕ) (cs before : List Command) (x : Command) (behind : L
 tidy_there inputs cs before x behind i c v is at read e =
     let same : c ≡ x = here_is cs before x c behind i is at read in
     one_done x (subst (λ (y : Command). rule_for_one y ≡ None) same e)
-    (differ inputs before x (v.at before x behind is))
+    (operands_differ inputs before x (v.at before x behind is))
 
 -- the last command, with which nothing is to be done
 pub done_last : (cs : List Command) (i : ℕ) (c : Command) → IsSomewhereValid cs →

@@ -15,10 +15,10 @@ use Rattle.mc_model.specs.Derivation.{x_second, z_first, z_second, x_measured, z
 use Rattle.mc_model.specs.Derivation.{x_joined, z_joined, edges_exchanged, same_cancelled}
 use Rattle.mc_model.specs.Derivation.{turned_cancelled, x_behind_z, z_behind_x, x_dropped}
 use Rattle.mc_model.specs.Derivation.{z_dropped}
+use Rattle.mc_model.proofs.SignalLemmas.{empty_is_none}
 use Rattle.mc_pattern.specs.Commands.{plain_command}
 use Rattle.mc_pattern.specs.declared.command.Command.{Command as Coded}
 use Rattle.mc_pattern.specs.declared.command.Command.TheVariants as commands
-use Rattle.mc_rules.proofs.SettledOrImproved.{none_in}
 use Rattle.mc_standard.specs.declared.rule.Rule.TheVariants as coded
 use Rattle.mc_standard.specs.Uses.{plain_rule}
 use Rattle.mc_trace.specs.declared.fitting.Shape.{Shape}
@@ -295,10 +295,10 @@ no_drop (commands.Ent i j) new f g r = elim r [ ]
 no_drop (commands.Meas q a s t) new f g r = elim r [ ]
 
 pub drops_x : (q : ℕ) (s : Signal) → is_empty s ≡ true → Rewrites DropEmpty (FixX q s ∷ []) []
-drops_x q s e = rw (none_in s e) x_dropped
+drops_x q s e = rw (empty_is_none s e) x_dropped
 
 pub drops_z : (q : ℕ) (s : Signal) → is_empty s ≡ true → Rewrites DropEmpty (FixZ q s ∷ []) []
-drops_z q s e = rw (none_in s e) z_dropped
+drops_z q s e = rw (empty_is_none s e) z_dropped
 
 dropped_empty : (c : Command) (new : List Command) → Rewrites DropEmpty (c ∷ []) new →
     (c ≡ FixX (shape_of c).a no_signal) ⊎ (c ≡ FixZ (shape_of c).a no_signal)

@@ -7,11 +7,11 @@ use Rattle.mc_model.specs.Pattern.{Command}
 use Rattle.mc_model.specs.Valid.{IsValid}
 use Rattle.mc_model.specs.StandardForm.{standard_commands}
 use Rattle.mc_model.specs.Derivation.{Use, Derives, no_use, one_use}
+use Rattle.mc_model.proofs.FittingCommands.{derived_valid, fit_from_valid, fit_split}
+use Rattle.mc_model.proofs.FittingCommands.{valid_from_fit}
 use Rattle.mc_pattern.specs.Commands.{plain_command}
 use Rattle.mc_pattern.specs.declared.command.Command.{Command as Coded}
 use Rattle.mc_rules.specs.Settled.{IsSettled}
-use Rattle.mc_rules.proofs.DerivationsKeep.{derived_valid}
-use Rattle.mc_rules.proofs.RulesKeepValidity.{fit_from_valid, fit_split, valid_from_fit}
 use Rattle.mc_rules.proofs.SettledForm.{settled_is_standard}
 use Rattle.mc_trace.specs.Choosing.{HelpsAt, IsSomewhereValid}
 use Rattle.mc_derivations.specs.Following.{Leads}

@@ -7,7 +7,7 @@ use Rattle.mc_model.specs.Signals.{Signal, AllAbove, IsRising}
 use Rattle.mc_model.specs.Pattern.{Command, Prep, Ent, Meas, FixX, FixZ}
 use Rattle.mc_model.specs.Valid.{AllDone, FitsBehind, IsLive, IsValid, SignalFits, prepared}
 use Rattle.mc_model.specs.Valid.{measured}
-use Rattle.mc_rules.proofs.RulesKeepValidity.{AllFit, fit_from_valid, valid_from_fit}
+use Rattle.mc_model.proofs.FittingCommands.{AllFit, fit_from_valid, valid_from_fit}
 use Rattle.mc_trace.proofs.EqualLists.{IsOrNot, both, bits_equal}
 
 less_or_not : (a b : ℕ) → IsOrNot (a < b)

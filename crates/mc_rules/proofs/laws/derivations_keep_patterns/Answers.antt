@@ -1,7 +1,8 @@
 use Rattle.mc_model.specs.Ring.{ring}
 use Rattle.mc_model.proofs.RingLemmas.{ring_laws}
 use Rattle.mc_model.proofs.AlikeLemmas.{alike_branches}
-use Rattle.mc_rules.proofs.DerivationsKeep.{derived_alike, derived_qubits, derived_valid}
+use Rattle.mc_model.proofs.FittingCommands.{derived_valid}
+use Rattle.mc_rules.proofs.DerivationsKeep.{derived_alike, derived_qubits}
 use Rattle.mc_rules.proofs.DerivationsKeep.{valid_again}
 use Rattle.mc_rules.proofs.laws.derivations_keep_patterns.Goals as goal
 

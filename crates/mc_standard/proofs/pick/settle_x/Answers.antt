@@ -3,8 +3,8 @@ use Rattle.std.proofs.lemmas.Cmp.{ranked}
 use mathlib.Core.Logic.{inl}
 use Rattle.mc_model.specs.Derivation.{x_joined}
 use Rattle.mc_model.specs.Pattern.{FixX, FixZ}
+use Rattle.mc_model.proofs.CommandOrder.{before_by}
 use Rattle.mc_standard.proofs.PickedRules.{swaps_two}
-use Rattle.mc_rules.proofs.SettledOrImproved.{before_by}
 use Rattle.mc_standard.proofs.pick.settle_x.Goals as goal
 
 pub returns-in-Less : goal.returns-in-Less

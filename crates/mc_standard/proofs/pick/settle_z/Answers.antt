@@ -3,8 +3,8 @@ use Rattle.std.proofs.lemmas.Cmp.{ranked}
 use mathlib.Core.Logic.{inl, inr}
 use Rattle.mc_model.specs.Derivation.{z_joined, z_behind_x}
 use Rattle.mc_model.specs.Pattern.{FixX, FixZ}
+use Rattle.mc_model.proofs.CommandOrder.{before_by}
 use Rattle.mc_standard.proofs.PickedRules.{exchanges_two, swaps_two}
-use Rattle.mc_rules.proofs.SettledOrImproved.{before_by}
 use Rattle.mc_standard.proofs.pick.settle_z.Goals as goal
 
 pub returns-in-Less : goal.returns-in-Less

@@ -1,7 +1,7 @@
 use Rattle.std.proofs.Common.{refl, arith}
 use Rattle.mc_model.specs.Derivation.{no_use}
+use Rattle.mc_model.proofs.FittingCommands.{derived_valid}
 use Rattle.mc_standard.specs.Uses.{plain_use}
-use Rattle.mc_rules.proofs.DerivationsKeep.{derived_valid}
 use Rattle.mc_derivations.specs.Checks.{IsTrace}
 use Rattle.mc_trace.proofs.Rows.{next_row, broken_row, ends_there, ends_elsewhere}
 use Rattle.mc_trace.proofs.Verdicts.{judged_yes, judged_no}
