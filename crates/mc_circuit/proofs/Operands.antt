@@ -3,7 +3,7 @@ use Rattle.std.proofs.Common.{◌≡◌, ℕ, Bool, true, false, Some, None, ref
 use Rattle.std.proofs.lemmas.Bool.Decides.{Decides-eqb}
 use Rattle.std.proofs.lemmas.Slice.Eq.{slice_eq-Decides}
 use Rattle.mc_model.specs.Names.{Name, name_eq, place_of}
-use Rattle.mc_names.specs.Stored.{name_eq-true}
+use Rattle.mc_model.proofs.NameLemmas.{name_eq-true}
 use Rattle.mc_text.specs.declared.fault.Fault.TheVariants.{SameOperand}
 use Rattle.mc_text.specs.Judged.{fault}
 use Rattle.mc_text.specs.Rules.{known_name}

@@ -4,10 +4,10 @@ use Rattle.std.proofs.Common.{ap₂, ◌∙◌, subst, inl, inr, arith}
 use Rattle.std.specs.Prelude.{ℤ}
 use Rattle.mc_model.specs.Bits.{bits_of}
 use Rattle.mc_model.specs.Ring.{Element, ring, product, plus, times, zeros}
+use Rattle.mc_model.specs.Height.{IsInRange}
 use Rattle.mc_ring.specs.Matrices as matrices
 use Rattle.mc_ring.specs.Matrices.{Entries, at, products, sum_below, IsProduct}
 use Rattle.mc_ring.specs.Matrices.{LeavesAt}
-use Rattle.mc_cyclo.specs.Height.{IsInRange}
 use Rattle.mc_run.specs.Settings.{spelled}
 use Rattle.mc_run.specs.Tables.{TableValue}
 use Rattle.mc_compose.specs.Laws.{SumsRunOverNumbers}

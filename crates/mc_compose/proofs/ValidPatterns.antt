@@ -18,7 +18,7 @@ use Rattle.mc_model.specs.Pattern.{Command, Prep, Ent, Meas, FixX, FixZ, Pattern
 use Rattle.mc_model.specs.Amplitude.{halvings, pattern_scale}
 use Rattle.mc_model.specs.Valid.{measured, prepared, IsValidPattern}
 use Rattle.mc_model.proofs.ValidLemmas.{prepared-append, nothing_valid}
-use Rattle.mc_names.specs.Stored.{name_eq-true}
+use Rattle.mc_model.proofs.NameLemmas.{name_eq-true}
 use Rattle.mc_compose.specs.Composed.{placed_command, placed_commands, place_behind, place_left}
 use Rattle.mc_compose.specs.Composed.{place_right, chained, side_by_side, free_names}
 use Rattle.mc_compose.proofs.Places.{place_fresh, input_below, place_unmeasured, behind_apart}

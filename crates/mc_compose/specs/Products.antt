@@ -2,8 +2,8 @@
 use Rattle.std.specs.Prelude.{◌≡◌, ℕ, ◌^◌, ◌<◌, Bool, List, ℤ}
 use Rattle.mc_model.specs.Bits.{Bits, bits_of}
 use Rattle.mc_model.specs.Ring.{Element, ring, product, plus, times, zeros}
+use Rattle.mc_model.specs.Height.{IsInRange}
 use Rattle.mc_ring.specs.Matrices.{Entries, at, sum_below, LeavesAt, StaysBelow}
-use Rattle.mc_cyclo.specs.Height.{IsInRange}
 use Rattle.mc_run.specs.Settings.{spelled}
 use Rattle.mc_run.specs.Tables.{TableValue, entry_at, IsTableOf}
 use Rattle.mc_compose.specs.Sums.{sum_over_bits}

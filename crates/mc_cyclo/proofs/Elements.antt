@@ -3,9 +3,9 @@ use Rattle.std.proofs.Common.{◌≡◌, ℕ, ◌+◌, ◌/◌, ◌%◌, ◌^◌
 use Rattle.std.proofs.Common.{sym}
 use Rattle.std.proofs.Common.{subst, ap, ◌∙◌}
 use Rattle.mc_model.specs.Ring.{plus, minus, rotations, length-plus, length-minus}
+use Rattle.mc_model.specs.Height.{height}
 use Rattle.mc_model.proofs.RingLemmas.{length-rotations}
-use Rattle.mc_cyclo.specs.Height.{height}
-use Rattle.mc_cyclo.specs.Heights.{height-plus, height-minus, height-rotations}
+use Rattle.mc_model.proofs.Heights.{height-plus, height-minus, height-rotations}
 use Rattle.mc_cyclo.specs.Cyclo.{IsCyclo}
 use Rattle.mc_cyclo.proofs.Turning.{even_half_turns, odd_half_turns}
 

@@ -9,8 +9,8 @@ use Rattle.std.proofs.lemmas.List.{ext_get_or}
 use Rattle.std.proofs.lemmas.Int.{unsigned_abs-mul}
 use Rattle.mc_model.specs.Ring.{plus, minus, scaled, zeros, rotated, times, length-plus}
 use Rattle.mc_model.specs.Ring.{length-minus, length-scaled}
-use Rattle.mc_cyclo.specs.Height.{height}
-use Rattle.mc_cyclo.specs.Heights.{abs_add, height-plus, height-rotated}
+use Rattle.mc_model.specs.Height.{height}
+use Rattle.mc_model.proofs.Heights.{abs_add, height-plus, height-rotated}
 
 -- the coordinate at j, or 0
 abbrev pub at : List ℤ → ℕ → ℤ

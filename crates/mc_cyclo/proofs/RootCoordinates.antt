@@ -5,8 +5,8 @@ use Rattle.std.specs.Prelude.{◌↔◌, ⊤}
 use Rattle.std.proofs.lemmas.Int.{ints}
 use lib.IntN.{neg_ℤ}
 use Rattle.mc_model.specs.Ring.{plus}
-use Rattle.mc_cyclo.specs.Cyclo.{IsLong}
 use Rattle.mc_model.specs.Roots.{root_times}
+use Rattle.mc_model.specs.Height.{IsLong}
 use Rattle.mc_cyclo.specs.RootLaws.{IsRooted, DifferEvenly, RootOfEighths, RootDividesEighths}
 use Rattle.mc_cyclo.specs.RootLaws.{RootOfSixteenths, RootDividesSixteenths}
 use Rattle.mc_cyclo.proofs.RootLemmas.{IsQuartered, root_turns, root_divides, root_of_divided}

@@ -9,11 +9,11 @@ use Rattle.mc_model.specs.Roots.{root_times, root_powers, IsSameValue}
 use Rattle.mc_model.specs.Steps.{is_permitted}
 use Rattle.mc_model.specs.Ring.{ring, root_two, plus, minus, zeros, times, unit, rotations}
 use Rattle.mc_model.specs.Ring.{length-unit, length-minus, length-times}
+use Rattle.mc_model.specs.Height.{IsLong}
 use Rattle.mc_model.proofs.RingLemmas.{turn_coefficients, times_comm, times_assoc, times_plus}
 use Rattle.mc_model.proofs.RingLemmas.{times_one, times_zeros, times_rotations, rotations_half}
 use Rattle.mc_model.proofs.RingLemmas.{rotations_add, length-rotations}
 use Rattle.mc_model.proofs.RootTwo.{root_squared}
-use Rattle.mc_cyclo.specs.Cyclo.{IsLong}
 
 -- half a turn is four times some steps
 pub record IsQuartered (half : ℕ) : Type 0 where

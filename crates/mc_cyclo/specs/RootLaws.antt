@@ -1,7 +1,7 @@
 -- The root of two times an element, and which elements it divides, by their coordinates.
 use Rattle.std.specs.Prelude.{◌≡◌, ◌↔◌, ℕ, ℤ, ◌+ℤ◌, neg_ℤ, List, [], ◌∷◌}
-use Rattle.mc_cyclo.specs.Cyclo.{IsLong}
 use Rattle.mc_model.specs.Roots.{root_times}
+use Rattle.mc_model.specs.Height.{IsLong}
 
 -- it is the root of two times an element
 abbrev pub IsRooted : ℕ → List ℤ → Type 0

@@ -3,7 +3,7 @@
 ghost use Rattle.std.specs.Prelude.{◌≡◌, ℕ, ℤ, List, ◌≤◌, ◌++◌, OnOk};
 ghost use Rattle.mc_model.specs.Roots.{IsSameValue};
 ghost use Rattle.mc_model.specs.Ring.{zeros};
-ghost use Rattle.mc_cyclo.specs.Cyclo.{IsLong};
+ghost use Rattle.mc_model.specs.Height.{IsLong};
 ghost use Rattle.mc_cyclo.specs.Text.{amplitude_text};
 
 use crate::cyclo::Cyclo;

@@ -5,7 +5,7 @@ ghost use Rattle.std.specs.Prelude.{MatchOption, ◌+ℤ◌, ℤ, pos, List};
 ghost use lib.IntN.{neg_ℤ};
 ghost use Rattle.std.specs.Int.RustNames.{unsigned_abs};
 ghost use Rattle.mc_model.specs.Ring.{plus, minus, rotations};
-ghost use Rattle.mc_cyclo.specs.Height.{height, IsInRange};
+ghost use Rattle.mc_model.specs.Height.{height, IsInRange};
 
 /// The greatest absolute value of a coordinate.
 pub const MOST: u64 = 1 << 60;

@@ -6,9 +6,8 @@ ghost use Rattle.std.specs.Int.RustNames.{unsigned_abs};
 ghost use Rattle.mc_model.specs.Roots.{root_times};
 ghost use Rattle.mc_model.specs.Steps.{is_permitted};
 ghost use Rattle.mc_model.specs.Ring.{plus, minus, times, zeros, unit as one_of, rotations};
-ghost use Rattle.mc_cyclo.specs.Height.{height, IsInRange};
-ghost use Rattle.mc_cyclo.specs.Cyclo.{IsLong};
-ghost use Rattle.mc_cyclo.specs.CycloLaws.{cyclo_laws, cyclo_turns, cyclo_heights};
+ghost use Rattle.mc_model.specs.Height.{height, IsInRange, IsLong};
+ghost use Rattle.mc_model.proofs.ElementLaws.{cyclo_laws, cyclo_turns, cyclo_heights};
 
 use crate::coordinates::{add_to, cross, halve, is_in_range, negate, turn};
 use crate::product::{multiply, narrow};

@@ -4,7 +4,7 @@ ghost use Rattle.std.specs.Prelude.{◌≡◌, ◌^◌, ◌<◌, ◌≤◌, leng
 ghost use lib.IntN.{◌*ℤ◌, neg_ℤ};
 ghost use Rattle.std.specs.Int.RustNames.{unsigned_abs};
 ghost use Rattle.mc_model.specs.Ring.{plus, scaled, rotated, times, zeros};
-ghost use Rattle.mc_cyclo.specs.Height.{height, IsInRange};
+ghost use Rattle.mc_model.specs.Height.{height, IsInRange};
 
 use crate::coordinates::MOST;
 

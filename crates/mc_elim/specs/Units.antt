@@ -2,7 +2,7 @@
 -- row alone, or the least set of rows that shows that there is none.
 use Rattle.std.specs.Prelude.{◌≡◌, ℕ, ◌<◌, Bool, true, List, length, slice_get, Some}
 use Rattle.mc_model.specs.Numbers.{is_member}
-use Rattle.mc_ring.specs.BitRing.{bit_of_list}
+use Rattle.mc_model.specs.BitRing.{bit_of_list}
 use Rattle.mc_ring.specs.Matrices.{Entries, at}
 use Rattle.mc_elim.specs.Systems.{Columns, Solves, Refutes, IsLeast}
 use Rattle.mc_elim.specs.Basis.{Inserted, count_of, HasNoSolution, IsLeastSolution, IsLeastRefuter}

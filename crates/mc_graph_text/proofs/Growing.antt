@@ -17,7 +17,7 @@ use Rattle.mc_model.specs.Names.{Name, name_eq, is_held, place_of}
 use Rattle.mc_model.specs.Numbers.{pairs_below}
 use Rattle.mc_model.specs.Graph.{Edge, edge, Fixed, OpenGraph, joins, fixed_at, not_fixed}
 use Rattle.mc_model.proofs.PairLemmas.{joins-pairs}
-use Rattle.mc_names.specs.Stored.{name_eq-true}
+use Rattle.mc_model.proofs.NameLemmas.{name_eq-true}
 use Rattle.mc_write.specs.Named.{name_at}
 use Rattle.mc_graph.specs.Building.{with_vertex, with_edge, with_angle}
 use Rattle.mc_graph.proofs.PairLists.{pairs_below-same, pairs_below-more}

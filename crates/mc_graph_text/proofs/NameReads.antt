@@ -10,7 +10,7 @@ use Rattle.mc_model.specs.Names.{Name, name_eq, is_held, place_of}
 use Rattle.mc_model.specs.Numbers.{is_member}
 use Rattle.mc_model.specs.Graph.{joins, fixed_at, not_fixed}
 use Rattle.mc_model.proofs.PairLemmas.{joins-pairs}
-use Rattle.mc_names.specs.Stored.{name_eq-true}
+use Rattle.mc_model.proofs.NameLemmas.{name_eq-true}
 use Rattle.mc_text.specs.Rules.{AreNumbers}
 use Rattle.mc_text.proofs.Listed.{place_at}
 use Rattle.mc_text.proofs.Members.{numbered-name, place-below}

@@ -6,7 +6,7 @@ use Rattle.std.proofs.Common.{ne_eqb, lt-ltb}
 use Rattle.mc_model.specs.Names.{Name, name_eq, is_held, place_of}
 use Rattle.mc_model.specs.Numbers.{is_member}
 use Rattle.mc_model.specs.Graph.{OpenGraph, joins, fixed_at}
-use Rattle.mc_names.specs.Stored.{name_eq-true}
+use Rattle.mc_model.proofs.NameLemmas.{name_eq-true}
 use Rattle.mc_text.specs.declared.fault.Fault.TheVariants.{Measured, SameOperand, EdgeTwice}
 use Rattle.mc_text.specs.declared.fault.Fault.TheVariants.{ListedTwice, FixedTwice}
 use Rattle.mc_text.specs.Judged.{fault}

@@ -8,7 +8,7 @@ use Rattle.std.proofs.lemmas.List.Sums.{AllPass-from_list_all}
 use Rattle.mc_model.specs.Names.{Name, AreNames, name_eq, is_held}
 use Rattle.mc_model.specs.Numbers.{ListsOnce, numbers_from}
 use Rattle.mc_model.specs.Graph.{OpenGraph}
-use Rattle.mc_names.specs.Stored.{name_eq-true}
+use Rattle.mc_model.proofs.NameLemmas.{name_eq-true}
 use Rattle.mc_lists.proofs.Counted.{ListsOnce-same}
 use Rattle.mc_text.specs.declared.head.Head.TheVariants.{End}
 use Rattle.mc_text.specs.Points.{last_head}

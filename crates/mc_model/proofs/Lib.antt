@@ -1,6 +1,10 @@
 pub mod StepLemmas
 pub mod WholeNumbers
 pub mod RingLemmas
+pub mod BitRingLaws
+pub mod Heights
+pub mod ElementLaws
+pub mod NameLemmas
 pub mod RootTwo
 pub mod BitLemmas
 pub mod SignalLemmas

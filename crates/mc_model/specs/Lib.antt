@@ -6,6 +6,9 @@ pub mod Signals
 pub mod Steps
 pub mod Phase
 pub mod Ring
+pub mod RingLaws
+pub mod BitRing
+pub mod Height
 pub mod Roots
 pub mod Pattern
 pub mod Amplitude

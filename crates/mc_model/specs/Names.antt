@@ -1,7 +1,8 @@
 -- Names of qubits, wires and vertices, which are numbered in the order of a list.
 use Rattle.std.specs.Prelude.{◌≡◌, ℕ, zero, suc, ◌+◌, ◌≤◌, ◌<◌, List, [], ◌++◌, ◌∷◌, Bool, true}
 use Rattle.std.specs.Prelude.{false, not, nat_eq, nat_le, ◌&&◌, ◌||◌, ◌==◌, IsTrue, length, map}
-use Rattle.std.specs.Prelude.{find, position, codes, unwrap_or, All, Option}
+use Rattle.std.specs.Prelude.{find, position, codes, unwrap_or, All, Option, take, drop, replicate}
+use Rattle.std.specs.Prelude.{◌-◌}
 use Rattle.std.specs.List.{IsDistinct, list_any, list_all}
 use Rattle.std.specs.Cmp.Lexicographic.{pointwise}
 use Rattle.std.specs.Fmt.{decimal}
@@ -56,3 +57,14 @@ IsFresh names name = (k : ℕ) × (0 < k) × (name ≡ numbered k) × (is_held n
 abbrev pub with_fresh : ℕ → List Name → List Name
 with_fresh zero names = names
 with_fresh (suc n) names = with_fresh n (names ++ fresh_name names ∷ [])
+
+-- the bytes hold a name of this length, and zeros behind it
+pub record IsStored (bytes : List ℕ) (len : ℕ) : Type 0 where
+  pub whole : length bytes ≡ 16
+  pub within : len ≤ 16
+  pub name : IsTrue (is_name (take len bytes))
+  pub zeros : drop len bytes ≡ replicate (16 - len) 0
+
+-- a name with zeros behind it, as it lies in sixteen bytes
+abbrev pub padded : List ℕ → List ℕ
+padded name = name ++ replicate (16 - length name) 0

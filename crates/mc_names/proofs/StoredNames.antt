@@ -8,8 +8,8 @@ use Rattle.std.proofs.lemmas.List.{length-replicate, length-drop, length-append,
 use Rattle.std.proofs.Math.Seq.{take-append_seam, drop-append_seam}
 use Rattle.std.proofs.lemmas.Bool.Decides.{nat_tests, Decides-eqb}
 use Rattle.std.proofs.lemmas.Slice.Eq.{slice_eq-Decides}
-use Rattle.mc_model.specs.Names.{is_name, is_name_byte, name_eq}
-use Rattle.mc_names.specs.Stored.{IsStored, padded, same_bytes}
+use Rattle.mc_model.specs.Names.{is_name, is_name_byte, name_eq, IsStored, padded}
+use Rattle.mc_model.proofs.NameLemmas.{same_bytes}
 
 pub short_name : (word : List ℕ) → IsTrue (is_name word) → length word ≤ 16
 short_name word h = grind (arith, nat_tests)

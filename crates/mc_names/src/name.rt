@@ -26,7 +26,8 @@ pub struct Name {
 
 impl Model for Name {
     ghost use Rattle.std.specs.Prelude.{List, ℕ, take, ◌++◌, ◌-◌, length, replicate};
-    ghost use Rattle.mc_names.specs.Stored.{IsStored, same_len, same_bytes};
+    ghost use Rattle.mc_model.specs.Names.{IsStored};
+    ghost use Rattle.mc_model.proofs.NameLemmas.{same_len, same_bytes};
 
     ghost Value = { List ℕ };
 
@@ -64,7 +65,8 @@ impl Eq for Name {
 impl Hash for Name {
     ghost use Rattle.std.specs.Prelude.{◌∷◌, []};
     ghost use Rattle.std.proofs.Common.{ap};
-    ghost use Rattle.mc_names.specs.Stored.{padded, name_eq-true};
+    ghost use Rattle.mc_model.specs.Names.{padded};
+    ghost use Rattle.mc_model.proofs.NameLemmas.{name_eq-true};
 
     ghost hash_input = { λ n. padded n ∷ [] };
 

@@ -11,11 +11,11 @@ use Rattle.mc_lex.specs.Lines.{Line}
 use Rattle.mc_lists.proofs.Counted.{ListsOnce-same}
 use Rattle.mc_model.specs.Bits.{Bits, bits_of}
 use Rattle.mc_model.specs.Names.{Name, name_eq, is_held}
-use Rattle.mc_names.specs.Stored.{name_eq-true}
 use Rattle.mc_model.specs.Numbers.{ListsOnce}
 use Rattle.mc_model.specs.Pattern.{HasNoConstants}
 use Rattle.mc_model.specs.Steps.{is_permitted}
 use Rattle.mc_model.specs.Valid.{measured}
+use Rattle.mc_model.proofs.NameLemmas.{name_eq-true}
 use Rattle.mc_text.specs.declared.head.Head.TheVariants.{End}
 use Rattle.mc_text.specs.Points.{last_head}
 use Rattle.mc_text.specs.Judged.{Lines, Place, first_in_section, section_lines}

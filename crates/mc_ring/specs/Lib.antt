@@ -1,3 +1,1 @@
-pub mod BitRing
-pub mod Laws
 pub mod Matrices

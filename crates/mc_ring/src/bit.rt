@@ -1,7 +1,8 @@
 //! The ring of two elements.
 
 ghost use Rattle.std.specs.Prelude.{◌≡◌, ⊤, true, false};
-ghost use Rattle.mc_ring.specs.BitRing.{seen_bit, IsBit, bit_sum, bit_product, bit_laws};
+ghost use Rattle.mc_model.specs.BitRing.{seen_bit, IsBit, bit_sum, bit_product};
+ghost use Rattle.mc_model.proofs.BitRingLaws.{bit_laws};
 
 use crate::traits::Ring;
 use std::marker::Model;

@@ -1,7 +1,7 @@
 //! Rings, and rings with a root of -1.
 
 ghost use Rattle.std.specs.Prelude.{◌≡◌, ℕ, ◌+◌, ◌^◌, ◌≤◌, ℤ, ◌↔◌, List, IsTrue};
-ghost use Rattle.mc_ring.specs.Laws.{IsExact, RingLaws, TurnLaws, HeightLaws};
+ghost use Rattle.mc_model.specs.RingLaws.{IsExact, RingLaws, TurnLaws, HeightLaws};
 
 /// A commutative ring. A value is seen as a list of whole numbers. The exact sum, negative and product are those of
 /// the lists, also where they leave the range of the type.

@@ -13,7 +13,7 @@ use Rattle.mc_model.specs.Bits.{◌⊻◌}
 use Rattle.mc_model.specs.Names.{is_name, is_held, place_of}
 use Rattle.mc_model.specs.Numbers.{is_member, numbers_from}
 use Rattle.mc_model.specs.Signals.{toggled}
-use Rattle.mc_names.specs.Stored.{name_eq-true}
+use Rattle.mc_model.proofs.NameLemmas.{name_eq-true}
 use Rattle.mc_text.specs.declared.fault.Fault.TheVariants.{ListedTwice}
 use Rattle.mc_text.specs.Judged.{fault, Words}
 use Rattle.mc_text.specs.Rules.{number_in, known_name}

@@ -12,8 +12,8 @@ use Rattle.mc_model.specs.Ring.{ring}
 use Rattle.mc_model.specs.Pattern.{Pattern, measured_order}
 use Rattle.mc_model.specs.Valid.{IsValidPattern}
 use Rattle.mc_model.specs.Amplitude.{start, after, branch_map}
+use Rattle.mc_model.specs.Height.{IsLong}
 use Rattle.mc_pattern.specs.Patterns.{measured_count}
-use Rattle.mc_cyclo.specs.Cyclo.{IsLong}
 use Rattle.mc_run.specs.Exact.{phases}
 use Rattle.mc_run.specs.Settings.{spelled, numbers_below}
 use Rattle.mc_run.specs.Sources.{entry, Holds}

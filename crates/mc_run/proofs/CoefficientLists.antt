@@ -10,8 +10,7 @@ use Rattle.mc_model.specs.Pattern.{Gate, J, CZ, Circuit, Command, Prep, Ent, Mea
 use Rattle.mc_model.specs.Pattern.{Pattern, wires}
 use Rattle.mc_model.specs.Amplitude.{Amps, start, agrees, act, after, amp, branch_map, act_gate}
 use Rattle.mc_model.specs.Amplitude.{after_gates, circuit_table, placed}
-use Rattle.mc_cyclo.specs.Height.{height}
-use Rattle.mc_cyclo.specs.Cyclo.{IsLong}
+use Rattle.mc_model.specs.Height.{height, IsLong}
 use Rattle.mc_run.specs.Exact.{Exact, exact, phases}
 use Rattle.mc_run.specs.Settings.{spelled, place_spelled, numbers_below}
 use Rattle.mc_run.specs.Sources.{entry, Holds}

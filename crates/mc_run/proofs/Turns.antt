@@ -2,7 +2,7 @@
 use Rattle.std.proofs.Common.{◌≡◌, ℕ, zero, suc, ◌+◌, ◌≤◌, Bool, true, false, cond, ℤ, List, sym}
 use Rattle.std.proofs.Common.{ap, ◌∙◌, arith}
 use Rattle.mc_model.specs.Phase.{turn, sign}
-use Rattle.mc_ring.specs.Laws.{RingLaws, TurnLaws, HeightLaws}
+use Rattle.mc_model.specs.RingLaws.{RingLaws, TurnLaws, HeightLaws}
 use Rattle.mc_run.specs.Exact.{Exact, exact, phases}
 
 -- the laws that the runner rests on

@@ -9,7 +9,7 @@ use Rattle.std.proofs.lemmas.Bool.{cases_Bool, true≢false}
 use Rattle.std.proofs.lemmas.List.{length-map}
 use Rattle.mc_model.specs.Roots.{root_times, root_powers, IsSameValue}
 use Rattle.mc_model.specs.Ring.{plus}
-use Rattle.mc_cyclo.specs.Cyclo.{IsLong}
+use Rattle.mc_model.specs.Height.{IsLong}
 use Rattle.mc_cyclo.proofs.RootLemmas.{IsQuartered, root_twice, root_long_as, value_less}
 use Rattle.mc_cyclo.proofs.RootLemmas.{least_exponent}
 use Rattle.mc_run_text.specs.Reduced.{Fraction, over_root, has_root, reduced}

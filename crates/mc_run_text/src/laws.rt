@@ -3,7 +3,7 @@
 ghost use Rattle.std.specs.Prelude.{◌≡◌, ℕ, ◌≤◌, ℤ, List, IsTrue};
 ghost use Rattle.mc_model.specs.Roots.{IsSameValue};
 ghost use Rattle.mc_model.specs.Steps.{is_permitted};
-ghost use Rattle.mc_cyclo.specs.Cyclo.{IsLong};
+ghost use Rattle.mc_model.specs.Height.{IsLong};
 ghost use Rattle.mc_cyclo.specs.Phase.{IsLeastPhase};
 ghost use Rattle.mc_run_text.specs.Reduced.{reduced};
 ghost use Rattle.mc_run_text.specs.Runs.{least_phase};

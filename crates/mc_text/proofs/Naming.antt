@@ -10,8 +10,8 @@ use Rattle.std.proofs.lemmas.Map.Keys.{IsDistinct-head, IsDistinct-tail}
 use Rattle.std.proofs.lemmas.Option.{unwrap_or-slice_get}
 use Rattle.mc_lex.specs.Bytes.{is_word_byte}
 use Rattle.mc_model.specs.Names.{Name, AreNames, name_eq, is_name, is_name_byte, place_of, is_held}
+use Rattle.mc_model.proofs.NameLemmas.{name_eq-true}
 use Rattle.mc_angle.specs.Number.{is_digit, is_number}
-use Rattle.mc_names.specs.Stored.{name_eq-true}
 use Rattle.mc_write.specs.Named.{name_at}
 use Rattle.mc_text.specs.Rules.{number_in, AreNumbers}
 use Rattle.mc_text.proofs.Numbers.{held-place}

@@ -7,7 +7,7 @@ use Rattle.std.proofs.lemmas.Bool.Decides.{Decides-eqb, nat_tests}
 use Rattle.std.proofs.lemmas.List.Quantifiers.{position-Some}
 use Rattle.std.proofs.lemmas.Slice.Eq.{slice_eq-Decides}
 use Rattle.mc_model.specs.Names.{is_name, name_eq, place_of, is_held}
-use Rattle.mc_names.specs.Stored.{name_eq-true}
+use Rattle.mc_model.proofs.NameLemmas.{name_eq-true}
 use Rattle.mc_text.specs.declared.fault.Fault.TheVariants.{DefinedTwice, ListedTwice}
 use Rattle.mc_text.specs.Judged.{fault, limit}
 use Rattle.mc_text.specs.Rules.{new_name, known_name, listed_name, number_in, AreNumbers}

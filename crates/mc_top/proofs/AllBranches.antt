@@ -17,13 +17,13 @@ use Rattle.mc_model.specs.Valid.{IsValidPattern, measured}
 use Rattle.mc_model.specs.Amplitude.{placed}
 use Rattle.mc_model.proofs.BitLemmas.{replaced_same, replaced_other}
 use Rattle.mc_model.specs.Ring.{Element}
-use Rattle.mc_cyclo.specs.Cyclo.{IsLong}
 use Rattle.mc_cyclo.specs.Phase.{IsPhase, IsLeastPhase}
 use Rattle.mc_model.specs.Roots.{IsSameValue}
 use Rattle.mc_run_text.specs.Reduced.{reduced}
 use Rattle.mc_pattern.specs.Patterns.{measured_count}
 use Rattle.mc_run.specs.Reports.{outcomes_of}
 use Rattle.mc_model.specs.Pattern.{measured_order}
+use Rattle.mc_model.specs.Height.{IsLong}
 use Rattle.mc_run.specs.Settings.{is_odd, spelled}
 use Rattle.mc_run.proofs.MeasuringOrder.{order_long}
 use Rattle.mc_run_text.specs.Runs.{branch_entries, branch_phase, is_unlike, least_phase}

@@ -8,9 +8,9 @@ use Rattle.mc_model.specs.Ring.{ring}
 use Rattle.mc_model.specs.Pattern.{Circuit, Pattern}
 use Rattle.mc_model.specs.Valid.{measured}
 use Rattle.mc_model.specs.Amplitude.{branch_map, circuit_table, circuit_scale, pattern_scale}
-use Rattle.mc_cyclo.specs.Cyclo.{IsLong}
 use Rattle.mc_cyclo.specs.Phase.{IsPhase, IsLeastPhase}
 use Rattle.mc_model.specs.Roots.{IsSameValue}
+use Rattle.mc_model.specs.Height.{IsLong}
 use Rattle.mc_pattern.specs.Patterns.{measured_count}
 use Rattle.mc_run.specs.Limits.{circuit_limit, all_limit}
 use Rattle.mc_run.specs.Reports.{outcomes_of}

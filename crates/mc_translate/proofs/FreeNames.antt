@@ -12,7 +12,7 @@ use Rattle.std.proofs.lemmas.Map.Keys.{apart_from_distinct}
 use Rattle.std.proofs.lemmas.Option.{slice_get_within, get_or_from_slice_get}
 use mathlib.Core.Logic.{inl, inr}
 use Rattle.mc_model.specs.Names.{Name, name_eq, place_of, is_held}
-use Rattle.mc_names.specs.Stored.{name_eq-true}
+use Rattle.mc_model.proofs.NameLemmas.{name_eq-true}
 
 no_place : (names : List Name) (name : Name) (place : Option ℕ) → place_of names name ≡ place →
     is_held names name ≡ false → place ≡ None

@@ -1,7 +1,7 @@
 use Rattle.std.proofs.Common.{arith, rules, ◌≡◌, ◌%◌, ◌/◌, ◌∙◌, sym, ap, length}
 use Rattle.mc_model.specs.Ring.{minus}
-use Rattle.mc_cyclo.specs.Height.{height}
-use Rattle.mc_cyclo.specs.Heights.{height-rotations}
+use Rattle.mc_model.specs.Height.{height}
+use Rattle.mc_model.proofs.Heights.{height-rotations}
 use Rattle.mc_cyclo.proofs.Turning.{even_half_turns, odd_half_turns}
 use Rattle.mc_cyclo.proofs.coordinates.turn.Goals as goal
 

@@ -5,7 +5,7 @@ use Rattle.std.proofs.lemmas.Int.{to_z-of_z, fits_signed_from_abs}
 use Rattle.std.proofs.lemmas.List.{ext_get_or}
 use Rattle.mc_model.specs.Ring.{rotations}
 use Rattle.mc_model.proofs.RingLemmas.{length-rotations}
-use Rattle.mc_cyclo.specs.Heights.{height-rotations}
+use Rattle.mc_model.proofs.Heights.{height-rotations}
 use Rattle.mc_cyclo.proofs.Places.{at, at-height}
 use Rattle.mc_cyclo.proofs.coordinates.turn_by_steps.Goals as goal
 

@@ -1,6 +1,6 @@
 use Rattle.std.proofs.Common.{◌≡◌, ◌-◌, ◌*◌, ◌^◌, ◌≤◌, length, drop}
 use Rattle.mc_model.specs.Ring.{times}
-use Rattle.mc_cyclo.specs.Height.{height}
+use Rattle.mc_model.specs.Height.{height}
 use Rattle.mc_cyclo.proofs.product.multiply.Given as goal
 
 abbrev pub invariant-loop-i : goal.invariant-loop-i

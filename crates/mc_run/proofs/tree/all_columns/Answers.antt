@@ -3,8 +3,8 @@ use Rattle.std.proofs.Common.{◌++◌, length, map, sym, subst, ap, ◌∙◌, 
 use Rattle.std.proofs.lemmas.List.{length-map, length-replicate, map-append}
 use Rattle.mc_model.specs.Bits.{Bits, all_zero, bits_of}
 use Rattle.mc_model.specs.Amplitude.{start, after}
+use Rattle.mc_model.specs.Height.{IsLong}
 use Rattle.mc_pattern.specs.Commands.{plain_command}
-use Rattle.mc_cyclo.specs.Cyclo.{IsLong}
 use Rattle.mc_run.specs.Exact.{phases}
 use Rattle.mc_run.specs.Settings.{spelled, numbers_below}
 use Rattle.mc_run.specs.Sources.{Holds}

@@ -1,9 +1,9 @@
 use Rattle.std.proofs.Common.{subst, Result, OnOk, Ok, Err}
-use Rattle.mc_cyclo.specs.Cyclo.{IsLong}
 use Rattle.mc_cyclo.proofs.RootLemmas.{permitted_quartered}
 use Rattle.mc_run_text.proofs.RootReduction.{is_the_reduced}
 use Rattle.mc_run_text.proofs.WrittenLines.{amplitude_behind}
 use Rattle.mc_run_text.proofs.print.add_amplitude.Goals as goal
+use Rattle.mc_model.specs.Height.{IsLong}
 
 OnOk_to : {A E : Type 0} (r : Result A E) (P Q : Type 0) → (P → Q) → OnOk r P → OnOk r Q
 OnOk_to (Ok a) P Q f h = f h

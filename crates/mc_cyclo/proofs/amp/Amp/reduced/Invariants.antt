@@ -1,5 +1,5 @@
 use Rattle.mc_model.specs.Roots.{IsSameValue}
-use Rattle.mc_cyclo.specs.Cyclo.{IsLong}
+use Rattle.mc_model.specs.Height.{IsLong}
 use Rattle.mc_cyclo.proofs.amp.Amp.reduced.Given as goal
 
 abbrev pub invariant-roots : goal.invariant-roots

@@ -1,9 +1,8 @@
 use Rattle.std.proofs.Common.{rules, arith, ◌≡◌, ◌*◌, ◌/◌, ◌∙◌, sym, ap, ap₂, length, IsTrue}
 use Rattle.mc_model.specs.Roots.{root_times}
 use Rattle.mc_model.specs.Ring.{plus}
-use Rattle.mc_cyclo.specs.Cyclo.{IsLong}
-use Rattle.mc_cyclo.specs.Height.{height}
-use Rattle.mc_cyclo.specs.Heights.{height-plus, height-rotations}
+use Rattle.mc_model.specs.Height.{IsLong, height}
+use Rattle.mc_model.proofs.Heights.{height-plus, height-rotations}
 use Rattle.mc_cyclo.proofs.Elements.{IsCyclo-rotations}
 use Rattle.mc_cyclo.proofs.RootLemmas.{permitted_quartered, root_turns, root_divides}
 use Rattle.mc_cyclo.proofs.RootLemmas.{root_of_divided, root_long_as}

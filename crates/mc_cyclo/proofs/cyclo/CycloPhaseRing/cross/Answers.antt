@@ -1,11 +1,11 @@
 use Rattle.std.proofs.Common.{arith, rules, ℕ, ◌≡◌, ◌/◌, ◌%◌, ◌∙◌}
 use Rattle.std.proofs.Common.{sym, ap, ap₂}
 use Rattle.mc_model.specs.Ring.{plus, minus, rotations, length-minus}
+use Rattle.mc_model.specs.Height.{height}
 use Rattle.mc_model.proofs.RingLemmas.{length-rotations}
 use Rattle.mc_model.proofs.RootTwo.{minus_minus}
-use Rattle.mc_cyclo.specs.CycloLaws.{permitted_positive}
-use Rattle.mc_cyclo.specs.Height.{height}
-use Rattle.mc_cyclo.specs.Heights.{height-minus, height-rotations}
+use Rattle.mc_model.proofs.ElementLaws.{permitted_positive}
+use Rattle.mc_model.proofs.Heights.{height-minus, height-rotations}
 use Rattle.mc_cyclo.proofs.Elements.{IsCyclo-sum, even_turns, odd_turns}
 use Rattle.mc_cyclo.proofs.cyclo.CycloPhaseRing.cross.Goals as goal
 

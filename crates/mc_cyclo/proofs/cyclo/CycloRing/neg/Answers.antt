@@ -1,6 +1,6 @@
 use Rattle.std.proofs.Common.{◌≡◌, ◌∙◌, ap, subst}
 use Rattle.mc_model.specs.Ring.{minus}
-use Rattle.mc_cyclo.specs.Height.{IsInRange}
+use Rattle.mc_model.specs.Height.{IsInRange}
 use Rattle.mc_cyclo.proofs.Elements.{IsCyclo-minus}
 use Rattle.mc_cyclo.proofs.cyclo.CycloRing.neg.Goals as goal
 

@@ -5,14 +5,13 @@ use Rattle.std.proofs.lemmas.Bool.Decides.{nat_tests}
 use Rattle.mc_model.specs.Steps.{is_permitted}
 use Rattle.mc_model.specs.Ring.{plus, minus, times, zeros, unit, rotations}
 use Rattle.mc_model.specs.Ring.{length-plus, length-minus, length-times, length-zeros, length-unit}
+use Rattle.mc_model.specs.RingLaws.{RingLaws, TurnLaws, HeightLaws}
+use Rattle.mc_model.specs.Height.{height, IsInRange, IsLong}
 use Rattle.mc_model.proofs.RingLemmas.{plus_comm, plus_assoc, plus_zeros, plus_minus, times_comm}
 use Rattle.mc_model.proofs.RingLemmas.{times_assoc, times_one, times_plus, rotations_half}
 use Rattle.mc_model.proofs.RingLemmas.{rotations_add, rotations_product, length-rotations}
-use Rattle.mc_ring.specs.Laws.{RingLaws, TurnLaws, HeightLaws}
-use Rattle.mc_cyclo.specs.Height.{height, IsInRange}
-use Rattle.mc_cyclo.specs.Heights.{height-zeros, height-unit, height-plus, height-minus}
-use Rattle.mc_cyclo.specs.Heights.{height-rotations}
-use Rattle.mc_cyclo.specs.Cyclo.{IsLong}
+use Rattle.mc_model.proofs.Heights.{height-zeros, height-unit, height-plus, height-minus}
+use Rattle.mc_model.proofs.Heights.{height-rotations}
 
 pub permitted_positive : (half : ℕ) → IsTrue (is_permitted half) → 0 < half
 permitted_positive half p = grind (arith, nat_tests)

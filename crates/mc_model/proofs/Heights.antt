@@ -5,7 +5,7 @@ use Rattle.std.proofs.Common.{arith, ◌∙◌}
 use Rattle.std.proofs.lemmas.Int.{ints}
 use Rattle.std.specs.Int.RustNames.{unsigned_abs}
 use Rattle.mc_model.specs.Ring.{plus, minus, zeros, unit, behind, final, rotated, rotations}
-use Rattle.mc_cyclo.specs.Height.{height}
+use Rattle.mc_model.specs.Height.{height}
 
 pub abs_add : (x y : ℤ) → unsigned_abs (x +ℤ y) ≤ unsigned_abs x + unsigned_abs y
 abs_add x y = omega (arith, ints)

@@ -1,21 +1,10 @@
--- How a name lies in sixteen bytes.
-use Rattle.std.specs.Prelude.{◌≡◌, ℕ, ◌-◌, ◌≤◌, List, ◌++◌, length, take, drop, replicate, refl}
-use Rattle.std.proofs.Common.{arith, IsTrue, ℕ, true}
+-- Names and the sixteen bytes in which they lie.
+use Rattle.std.proofs.Common.{◌≡◌, ℕ, ◌-◌, ◌≤◌, true, List, ◌++◌, length, take, drop, arith, refl}
+use Rattle.std.specs.Prelude.{replicate}
 use Rattle.std.proofs.lemmas.List.{take-append-drop, length-take-le}
 use Rattle.std.proofs.lemmas.Slice.Eq.{slice_eq-Decides}
 use Rattle.std.proofs.lemmas.Bool.Decides.{Decides-eqb}
-use Rattle.mc_model.specs.Names.{is_name, name_eq}
-
--- the bytes hold a name of this length, and zeros behind it
-pub record IsStored (bytes : List ℕ) (len : ℕ) : Type 0 where
-  pub whole : length bytes ≡ 16
-  pub within : len ≤ 16
-  pub name : IsTrue (is_name (take len bytes))
-  pub zeros : drop len bytes ≡ replicate (16 - len) 0
-
--- a name with zeros behind it, as it lies in sixteen bytes
-abbrev pub padded : List ℕ → List ℕ
-padded name = name ++ replicate (16 - length name) 0
+use Rattle.mc_model.specs.Names.{name_eq, IsStored}
 
 pub same_len : (bytes : List ℕ) (len : ℕ) → IsStored bytes len → length (take len bytes) ≡ len
 same_len bytes len h = let w = h.whole in let k = h.within in length-take-le len bytes (omega arith)
