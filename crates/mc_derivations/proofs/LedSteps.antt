@@ -14,61 +14,61 @@ use Rattle.mc_model.specs.Alike.{Disjoint}
 use Rattle.mc_model.proofs.ValidLemmas.{prepared-append}
 use Rattle.mc_derivations.specs.Following.{Leads}
 use Rattle.mc_derivations.proofs.MeasuresExchanged.{measures_exchanged}
-use Rattle.mc_rules.proofs.FirstOutOfOrder.{used}
+use Rattle.mc_rules.specs.Passing.{RulesServe}
 use Rattle.mc_derivations.specs.Checks.{BreaksRow, PrepsAt}
 use Rattle.mc_derivations.proofs.CutLists.{cut_same}
 
-swap_valid : (inputs : ℕ) (before : List Command) (c d : Command) (behind : List Command) →
+swap_valid : RulesServe → (inputs : ℕ) (before : List Command) (c d : Command) (behind : List Command) →
     Disjoint c d → UsesNot c d → ((q r : ℕ) → c ∷ d ∷ [] ≡ Prep q ∷ Prep r ∷ [] → ⊥) →
     IsValid inputs (before ++ (c ∷ d ∷ behind)) → IsValid inputs (before ++ (d ∷ c ∷ behind))
-swap_valid inputs before (Prep q) (Prep r) behind apart free none v = absurd (none q r refl)
-swap_valid inputs before (Meas i a s t) (Meas q b u w) behind apart free none v =
+swap_valid law inputs before (Prep q) (Prep r) behind apart free none v = absurd (none q r refl)
+swap_valid law inputs before (Meas i a s t) (Meas q b u w) behind apart free none v =
     measures_exchanged inputs before i a s t q b u w behind apart free v
-swap_valid inputs before c d behind apart free none v =
-    (used inputs Swap before (c ∷ d ∷ []) (d ∷ c ∷ []) behind (swapped apart free) tt v).0.to_valid
+swap_valid law inputs before c d behind apart free none v =
+    (law inputs Swap before (c ∷ d ∷ []) (d ∷ c ∷ []) behind (swapped apart free) tt v).step.to_valid
 
-after_valid : (inputs : ℕ) (rule : Rule) (before old new behind : List Command) →
+after_valid : RulesServe → (inputs : ℕ) (rule : Rule) (before old new behind : List Command) →
     Rewrites rule old new → ((q r : ℕ) → old ≡ Prep q ∷ Prep r ∷ [] → ⊥) →
     IsValid inputs (before ++ (old ++ behind)) → IsValid inputs (before ++ (new ++ behind))
-after_valid inputs Swap before _ _ behind (swapped {c} {d} apart free) none v =
-    swap_valid inputs before c d behind apart free none v
-after_valid inputs XE before _ _ behind (x_first {i} {j} {s}) none v =
-    (used inputs XE before _ _ behind x_first tt v).0.to_valid
-after_valid inputs XE before _ _ behind (x_second {i} {j} {s}) none v =
-    (used inputs XE before _ _ behind x_second tt v).0.to_valid
-after_valid inputs ZE before _ _ behind (z_first {i} {j} {s}) none v =
-    (used inputs ZE before _ _ behind z_first tt v).0.to_valid
-after_valid inputs ZE before _ _ behind (z_second {i} {j} {s}) none v =
-    (used inputs ZE before _ _ behind z_second tt v).0.to_valid
-after_valid inputs XM before _ _ behind (x_measured {i} {a} {r} {s} {t}) none v =
-    (used inputs XM before _ _ behind x_measured tt v).0.to_valid
-after_valid inputs ZM before _ _ behind (z_measured {i} {a} {r} {s} {t}) none v =
-    (used inputs ZM before _ _ behind z_measured tt v).0.to_valid
-after_valid inputs Join before _ _ behind (x_joined {i} {s} {t}) none v =
-    (used inputs Join before _ _ behind x_joined tt v).0.to_valid
-after_valid inputs Join before _ _ behind (z_joined {i} {s} {t}) none v =
-    (used inputs Join before _ _ behind z_joined tt v).0.to_valid
-after_valid inputs EE before _ _ behind (edges_exchanged {i} {j} {q} {r}) none v =
-    (used inputs EE before _ _ behind edges_exchanged tt v).0.to_valid
-after_valid inputs Cancel before _ _ behind (same_cancelled {i} {j}) none v =
-    (used inputs Cancel before _ _ behind same_cancelled tt v).0.to_valid
-after_valid inputs Cancel before _ _ behind (turned_cancelled {i} {j}) none v =
-    (used inputs Cancel before _ _ behind turned_cancelled tt v).0.to_valid
-after_valid inputs XZ before _ _ behind (x_behind_z {i} {s} {t}) none v =
-    (used inputs XZ before _ _ behind x_behind_z tt v).0.to_valid
-after_valid inputs XZ before _ _ behind (z_behind_x {i} {s} {t}) none v =
-    (used inputs XZ before _ _ behind z_behind_x tt v).0.to_valid
-after_valid inputs Turn before _ _ behind (turned {i} {j}) none v =
-    (used inputs Turn before _ _ behind turned tt v).0.to_valid
-after_valid inputs DropEmpty before _ _ behind (x_dropped {i}) none v =
-    (used inputs DropEmpty before _ _ behind x_dropped tt v).0.to_valid
-after_valid inputs DropEmpty before _ _ behind (z_dropped {i}) none v =
-    (used inputs DropEmpty before _ _ behind z_dropped tt v).0.to_valid
+after_valid law inputs Swap before _ _ behind (swapped {c} {d} apart free) none v =
+    swap_valid law inputs before c d behind apart free none v
+after_valid law inputs XE before _ _ behind (x_first {i} {j} {s}) none v =
+    (law inputs XE before _ _ behind x_first tt v).step.to_valid
+after_valid law inputs XE before _ _ behind (x_second {i} {j} {s}) none v =
+    (law inputs XE before _ _ behind x_second tt v).step.to_valid
+after_valid law inputs ZE before _ _ behind (z_first {i} {j} {s}) none v =
+    (law inputs ZE before _ _ behind z_first tt v).step.to_valid
+after_valid law inputs ZE before _ _ behind (z_second {i} {j} {s}) none v =
+    (law inputs ZE before _ _ behind z_second tt v).step.to_valid
+after_valid law inputs XM before _ _ behind (x_measured {i} {a} {r} {s} {t}) none v =
+    (law inputs XM before _ _ behind x_measured tt v).step.to_valid
+after_valid law inputs ZM before _ _ behind (z_measured {i} {a} {r} {s} {t}) none v =
+    (law inputs ZM before _ _ behind z_measured tt v).step.to_valid
+after_valid law inputs Join before _ _ behind (x_joined {i} {s} {t}) none v =
+    (law inputs Join before _ _ behind x_joined tt v).step.to_valid
+after_valid law inputs Join before _ _ behind (z_joined {i} {s} {t}) none v =
+    (law inputs Join before _ _ behind z_joined tt v).step.to_valid
+after_valid law inputs EE before _ _ behind (edges_exchanged {i} {j} {q} {r}) none v =
+    (law inputs EE before _ _ behind edges_exchanged tt v).step.to_valid
+after_valid law inputs Cancel before _ _ behind (same_cancelled {i} {j}) none v =
+    (law inputs Cancel before _ _ behind same_cancelled tt v).step.to_valid
+after_valid law inputs Cancel before _ _ behind (turned_cancelled {i} {j}) none v =
+    (law inputs Cancel before _ _ behind turned_cancelled tt v).step.to_valid
+after_valid law inputs XZ before _ _ behind (x_behind_z {i} {s} {t}) none v =
+    (law inputs XZ before _ _ behind x_behind_z tt v).step.to_valid
+after_valid law inputs XZ before _ _ behind (z_behind_x {i} {s} {t}) none v =
+    (law inputs XZ before _ _ behind z_behind_x tt v).step.to_valid
+after_valid law inputs Turn before _ _ behind (turned {i} {j}) none v =
+    (law inputs Turn before _ _ behind turned tt v).step.to_valid
+after_valid law inputs DropEmpty before _ _ behind (x_dropped {i}) none v =
+    (law inputs DropEmpty before _ _ behind x_dropped tt v).step.to_valid
+after_valid law inputs DropEmpty before _ _ behind (z_dropped {i}) none v =
+    (law inputs DropEmpty before _ _ behind z_dropped tt v).step.to_valid
 
 -- no two preparations at the place: the use is a step
-pub led_step : (inputs : ℕ) (u : Use) (cs ds : List Command) → Leads u cs ds →
+pub led_step : RulesServe → (inputs : ℕ) (u : Use) (cs ds : List Command) → Leads u cs ds →
     (PrepsAt u.place cs → ⊥) → IsValid inputs cs → Step inputs u.rule u.place cs ds
-led_step inputs u cs ds l none v = record {
+led_step law inputs u cs ds l none v = record {
   before = l.before;
   old = l.old;
   new = l.new;
@@ -79,7 +79,7 @@ led_step inputs u cs ds l none v = record {
   to_list = l.to_list;
   from_valid = v;
   to_valid = subst (IsValid inputs) (sym l.to_list)
-      (after_valid inputs u.rule l.before l.old l.new l.behind l.rewrites
+      (after_valid law inputs u.rule l.before l.old l.new l.behind l.rewrites
       (λ q r e. none (record {
         before = l.before;
         first = q;

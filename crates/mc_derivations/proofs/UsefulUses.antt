@@ -12,8 +12,7 @@ use Rattle.mc_model.specs.Derivation.{x_measured, z_measured, swapped, x_joined,
 use Rattle.mc_model.specs.Derivation.{edges_exchanged, same_cancelled, turned_cancelled, x_behind_z}
 use Rattle.mc_model.specs.Derivation.{z_behind_x, turned, x_dropped, z_dropped, Step, Use, part}
 use Rattle.mc_model.specs.Derivation.{is_wrong}
-use Rattle.mc_rules.proofs.FirstOutOfOrder.{TakesTurns, used}
-use Rattle.mc_rules.proofs.RulesKeepForm.{InTurn}
+use Rattle.mc_rules.specs.Passing.{InTurn, TakesTurns, RulesServe}
 use Rattle.mc_derivations.specs.Useful.{IsUseful}
 use Rattle.mc_derivations.specs.Following.{Leads}
 
@@ -55,27 +54,28 @@ more_behind : (before mid behind rest : List Command) →
 more_behind before mid behind rest = append_assoc before (mid ++ behind) rest
     ∙ ap (λ (xs : List Command). before ++ xs) (append_assoc mid behind rest)
 
-serves_there : (inputs : ℕ) (rule : Rule) (place : ℕ)
+serves_there : RulesServe → (inputs : ℕ) (rule : Rule) (place : ℕ)
     (cs ds rest before old new behind : List Command) → Rewrites rule old new →
     place ≡ suc (length before) → cs ≡ before ++ (old ++ behind) →
     ds ≡ before ++ (new ++ behind) → TakesTurns old → IsValid inputs (cs ++ rest) →
     ServesWhole inputs rule place cs ds rest
-serves_there inputs rule place cs ds rest before old new behind r at from to turns v =
+serves_there law inputs rule place cs ds rest before old new behind r at from to turns v =
     let whole : cs ++ rest ≡ before ++ (old ++ (behind ++ rest)) =
     ap (λ (xs : List Command). xs ++ rest) from ∙ more_behind before old behind rest in
     let after : ds ++ rest ≡ before ++ (new ++ (behind ++ rest)) =
     ap (λ (xs : List Command). xs ++ rest) to ∙ more_behind before new behind rest in
-    let u = used inputs rule before old new (behind ++ rest) r turns
+    let u = law inputs rule before old new (behind ++ rest) r turns
     (subst (IsValid inputs) whole v) in
     record {
-      step = rw (at, whole, after) u.0;
-      same = ap (standard_commands inputs) whole ∙ u.1
+      step = rw (at, whole, after) u.step;
+      same = ap (standard_commands inputs) whole ∙ u.same
           ∙ sym (ap (standard_commands inputs) after);
     }
 
-pub serves_whole : (inputs : ℕ) (u : Use) (cs ds rest : List Command) → (l : Leads u cs ds) →
+pub serves_whole : RulesServe → (inputs : ℕ) (u : Use) (cs ds rest : List Command) →
+    (l : Leads u cs ds) →
     IsUseful l.old l.new → IsValid inputs (cs ++ rest) →
     ServesWhole inputs u.rule u.place cs ds rest
-serves_whole inputs u cs ds rest l h v =
-    serves_there inputs u.rule u.place cs ds rest l.before l.old l.new l.behind l.rewrites
+serves_whole law inputs u cs ds rest l h v =
+    serves_there law inputs u.rule u.place cs ds rest l.before l.old l.new l.behind l.rewrites
     l.at_place l.from_list l.to_list (takes_turns u.rule l.old l.new l.rewrites h) v
