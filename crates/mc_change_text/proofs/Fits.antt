@@ -10,6 +10,7 @@ use Rattle.mc_model.specs.Numbers.{is_member}
 use Rattle.mc_model.specs.Pattern.{Pattern, measured_order}
 use Rattle.mc_model.specs.Shift.{ChangeRow, IsChangeOf, qubits_of}
 use Rattle.mc_model.specs.Signals.{IsRising}
+use Rattle.mc_signal.proofs.RisingSets.{rising_where}
 use Rattle.mc_text.specs.declared.fault.Fault.TheVariants.{OtherRow}
 use Rattle.mc_text.specs.Judged.{Words, Place, first_in_section, section_lines}
 use Rattle.mc_text.specs.Rules.{number_in}
@@ -18,7 +19,6 @@ use Rattle.mc_rows.specs.declared.row.Row.{Row}
 use Rattle.mc_rows.specs.Rows.{members_in, named, row_in, rows_in}
 use Rattle.mc_rows.specs.Judge.{row_rules}
 use Rattle.mc_rows.specs.Kept.{Passes}
-use Rattle.mc_rows.proofs.RisingSets.{rising_where}
 use Rattle.mc_rows.proofs.Holding.{rows_hold, rows_end}
 use Rattle.mc_change_text.specs.Changes.{AreSets}
 use Rattle.mc_change_text.specs.Kinds.{change_kind, change_row, change_rules, change_shape}

@@ -15,6 +15,7 @@ use Rattle.mc_model.specs.Pattern.{Pattern, measured_order}
 use Rattle.mc_model.specs.Signals.{IsRising}
 use Rattle.mc_model.specs.Shift.{ChangeRow, IsChangeOf, AreEarlier, qubits_of}
 use Rattle.mc_model.specs.Valid.{IsValidPattern}
+use Rattle.mc_model.proofs.MeasuredQubits.{measured_named}
 use Rattle.mc_text.specs.declared.head.Head.{Head}
 use Rattle.mc_text.specs.declared.head.Head.TheVariants.{O, End}
 use Rattle.mc_text.specs.Headers.{header_words}
@@ -27,7 +28,6 @@ use Rattle.mc_change_text.specs.Kinds.{rows_of}
 use Rattle.mc_change_text.specs.Canonical.{written_row, change_header, change_text}
 use Rattle.mc_rows.proofs.Within.{all_members}
 use Rattle.mc_change_text.proofs.Lists.{at_front, at_place, get_behind}
-use Rattle.mc_change_text.proofs.Measured.{measured_named}
 
 -- rows that are left, behind others, of a change of these measured qubits
 record AreLeft (n : ℕ) (second : Bool) (order : List ℕ) (done rows : List ChangeRow) : Type 0 where

@@ -32,3 +32,4 @@ pub mod ChosenFlows
 pub mod ValidInPlace
 pub mod SignalValues
 pub mod CorrectionsAct
+pub mod MeasuredQubits

@@ -1,5 +1,5 @@
 -- The ring of two elements: bits, seen as the lists of one number 0 or 1.
-use Rattle.std.specs.Prelude.{◌≡◌, Bool, true, false, ◌&&◌, ℤ, pos, cond, nat_eq, List, [], ◌∷◌}
+use Rattle.std.specs.Prelude.{◌≡◌, Bool, false, ◌&&◌, ℤ, pos, cond, nat_eq, List, [], ◌∷◌}
 use Rattle.std.specs.Int.RustNames.{unsigned_abs}
 use Rattle.mc_model.specs.Bits.{◌⊻◌}
 

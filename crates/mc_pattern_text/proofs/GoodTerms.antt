@@ -12,6 +12,7 @@ use Rattle.mc_pattern.specs.Rules.{is_undone}
 use Rattle.mc_pattern.proofs.Members.{none_by}
 use Rattle.mc_model.specs.Numbers.{is_member}
 use Rattle.mc_model.specs.Names.{is_held}
+use Rattle.mc_signal.proofs.RisingSets.{member_where, rising_where}
 use Rattle.mc_text.specs.declared.head.Head.{Head}
 use Rattle.mc_text.specs.declared.point.Point.{Point}
 use Rattle.mc_text.specs.Heads.{head_of}
@@ -28,7 +29,6 @@ use Rattle.mc_text.specs.Rules.{known_name}
 use Rattle.mc_text.proofs.Unbroken.{known_is, next_none, not_false, unbroken}
 use Rattle.mc_text.proofs.Numbers.{place-held}
 use Rattle.mc_rows.specs.Rows.{is_one, has_one, named}
-use Rattle.mc_rows.proofs.RisingSets.{member_where, rising_where}
 use Rattle.mc_rows.proofs.Sets.{name_no_one}
 use Rattle.mc_pattern_text.specs.Roles.{Role, first_term, second_term, term, role_of, is_defining}
 use Rattle.mc_pattern_text.specs.Value.{is_second, signal_in, first_of, second_of, added_by}

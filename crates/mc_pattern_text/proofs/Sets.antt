@@ -8,12 +8,12 @@ use Rattle.mc_model.specs.Bits.{Bits}
 use Rattle.mc_model.specs.Numbers.{is_member, numbers_where}
 use Rattle.mc_model.specs.Names.{is_held}
 use Rattle.mc_model.specs.Signals.{Signal}
+use Rattle.mc_signal.proofs.RisingSets.{member_where, rising_where, set_where}
 use Rattle.mc_text.specs.Judged.{Words}
 use Rattle.mc_text.specs.Rules.{number_in}
 use Rattle.mc_text.proofs.Kept.{held_more}
 use Rattle.mc_text.proofs.Numbers.{place-held}
 use Rattle.mc_rows.specs.Rows.{has_one, named, set_by}
-use Rattle.mc_rows.proofs.RisingSets.{member_where, rising_where, set_where}
 use Rattle.mc_text.proofs.Members.{place-below}
 use Rattle.mc_pattern_text.specs.Value.{signal_in}
 use Rattle.mc_pattern_text.specs.Kept.{IsSpelled}

@@ -10,6 +10,7 @@ use Rattle.mc_model.specs.Names.{Name, is_name, is_held, place_of}
 use Rattle.mc_model.specs.Numbers.{is_member}
 use Rattle.mc_model.specs.Signals.{IsRising, toggled}
 use Rattle.mc_signal.proofs.Members.{is_member-toggled}
+use Rattle.mc_signal.proofs.RisingSets.{rising_where}
 use Rattle.mc_text.specs.declared.head.Head.TheVariants.{End}
 use Rattle.mc_text.specs.Heads.{head_of, head_in, is_end}
 use Rattle.mc_text.specs.Points.{point_of}
@@ -28,7 +29,6 @@ use Rattle.mc_rows.specs.Judge.{row_rules}
 use Rattle.mc_rows.specs.Kept.{AreMembers, IsKept, Passes}
 use Rattle.mc_rows.proofs.Keeping.{took_head, took_number, took_name, took_colon, took_member}
 use Rattle.mc_rows.proofs.Keeping.{members_of, line_kept, end_kept, begins}
-use Rattle.mc_rows.proofs.RisingSets.{rising_where}
 use Rattle.mc_rows.proofs.Sets.{has-listed, joins_one, joins_name, joined_by}
 use Rattle.mc_text.proofs.GoesOn.{GoesOn, behind_clean}
 use Rattle.mc_text.proofs.Sections.{clean_ends}

@@ -1,4 +1,3 @@
-pub mod RisingSets
 pub mod Words
 pub mod Sets
 pub mod Keeping

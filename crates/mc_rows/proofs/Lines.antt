@@ -13,6 +13,7 @@ use Rattle.std.proofs.lemmas.List.Folds.{list_any-append}
 use Rattle.mc_model.specs.Names.{Name, AreNames, name_eq, is_held}
 use Rattle.mc_model.specs.Numbers.{is_member, numbers_where}
 use Rattle.mc_model.specs.Signals.{AllAbove, IsRising}
+use Rattle.mc_signal.proofs.RisingSets.{where_members}
 use Rattle.mc_angle.proofs.Numerals.{number-decimal}
 use Rattle.mc_write.specs.Named.{name_at}
 use Rattle.mc_text.specs.declared.head.Head.{Head}
@@ -36,7 +37,6 @@ use Rattle.mc_rows.specs.Written.{has_set, set_words, due_words}
 use Rattle.mc_rows.specs.Written.{IsPlain, IsNamed}
 use Rattle.mc_text.proofs.Members.{member-listed}
 use Rattle.mc_rows.proofs.Sets.{name_no_one, named-one}
-use Rattle.mc_rows.proofs.RisingSets.{where_members}
 
 -- a member of numbers below a bound is below it
 pub below_by : (n : ℕ) (qs : List ℕ) (k : ℕ) → All (λ q. q < n) qs → is_member qs k ≡ true → k < n

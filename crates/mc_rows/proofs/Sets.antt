@@ -14,6 +14,7 @@ use Rattle.mc_model.specs.Names.{is_name, is_held, place_of}
 use Rattle.mc_model.specs.Numbers.{is_member, numbers_from}
 use Rattle.mc_model.specs.Signals.{toggled}
 use Rattle.mc_model.proofs.NameLemmas.{name_eq-true}
+use Rattle.mc_signal.proofs.RisingSets.{member_where, same_where, toggled_where}
 use Rattle.mc_text.specs.declared.fault.Fault.TheVariants.{ListedTwice}
 use Rattle.mc_text.specs.Judged.{fault, Words}
 use Rattle.mc_text.specs.Rules.{number_in, known_name}
@@ -23,7 +24,6 @@ use Rattle.mc_rows.specs.declared.row.Row.{Row}
 use Rattle.mc_rows.specs.Rows.{is_one, has_one, named, set_by}
 use Rattle.mc_rows.specs.Judge.{Kind, member_word}
 use Rattle.mc_rows.specs.Kept.{AreMembers}
-use Rattle.mc_rows.proofs.RisingSets.{member_where, same_where, toggled_where}
 
 below_test : (q n : ℕ) → q < n → nat_lt q n ≡ true
 below_test q n lt = grind (arith, nat_tests)

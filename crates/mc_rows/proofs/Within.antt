@@ -9,6 +9,7 @@ use Rattle.std.proofs.lemmas.Bool.Decides.{nat_tests}
 use Rattle.std.proofs.lemmas.List.Elements.{All-from_recursion}
 use Rattle.mc_model.specs.Names.{Name, place_of}
 use Rattle.mc_model.specs.Numbers.{is_member, numbers_where}
+use Rattle.mc_signal.proofs.RisingSets.{rising_where, member_where}
 use Rattle.mc_text.specs.Heads.{head_in, is_end}
 use Rattle.mc_text.specs.Judged.{Words, Lines}
 use Rattle.mc_text.specs.Rules.{number_in}
@@ -16,7 +17,6 @@ use Rattle.mc_rows.specs.declared.row.Row.{Row}
 use Rattle.mc_rows.specs.Rows.{Shapes, is_name, words_in, members_in, named}
 use Rattle.mc_rows.specs.Rows.{row_in, rows_in}
 use Rattle.mc_rows.specs.Written.{IsWithin}
-use Rattle.mc_rows.proofs.RisingSets.{rising_where, member_where}
 use Rattle.mc_text.proofs.Members.{place-below}
 
 number_within : (names : List Name) (w : Name) → 0 < length names → number_in names w < length names

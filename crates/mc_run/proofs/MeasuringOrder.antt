@@ -16,6 +16,7 @@ use Rattle.mc_model.specs.Pattern.{Command, Prep, Ent, Meas, FixX, FixZ, Pattern
 use Rattle.mc_model.specs.Valid.{IsValid, IsValidPattern, measured, prepared}
 use Rattle.mc_model.proofs.BitLemmas.{replaced_same, replaced_other}
 use Rattle.mc_model.proofs.ValidLemmas.{prepared-append, next_measured, none_measured}
+use Rattle.mc_model.proofs.MeasuredQubits.{measured_named}
 use Rattle.mc_pattern.specs.Patterns.{measured_count}
 use Rattle.mc_pattern.proofs.Listed.{length-listed}
 
@@ -102,31 +103,11 @@ module _ (inputs : ℕ) (all : List Command) (valid : IsValid inputs all) where
             omega arith
       ]
 
-  order_below : (left before : List Command) (n : ℕ) → all ≡ before ++ left →
-      inputs + prepared all ≤ n → All (λ q. q < n) (measured_order left)
-  order_below [] before n e h = All-nil (λ q. q < n)
-  order_below (Prep r ∷ left) before n e h =
-      order_below left (before ++ (Prep r ∷ [])) n (split_on before (Prep r) left e) h
-  order_below (Ent r p ∷ left) before n e h =
-      order_below left (before ++ (Ent r p ∷ [])) n (split_on before (Ent r p) left e) h
-  order_below (FixX r s ∷ left) before n e h =
-      order_below left (before ++ (FixX r s ∷ [])) n (split_on before (FixX r s) left e) h
-  order_below (FixZ r s ∷ left) before n e h =
-      order_below left (before ++ (FixZ r s ∷ [])) n (split_on before (FixZ r s) left e) h
-  order_below (Meas r a s t ∷ left) before n e h =
-      let c : Command = Meas r a s t in
-      let p = ap prepared e ∙ prepared-append before (c ∷ left) in
-      let there = (valid.at before c left e).0.is_there in
-      All-cons (λ q. q < n) r (measured_order left) (omega arith)
-      (order_below left (before ++ (c ∷ [])) n (split_on before c left e) h)
-
 pub order_listed : (p : Pattern) → IsValidPattern p →
     ListsOnce (length p.names) (measured p.commands) (measured_order p.commands)
 unfolding measured
 order_listed p valid = record {
-  below =
-      order_below p.inputs p.commands valid.commands p.commands [] (length p.names) refl
-      (let e = valid.qubits in omega arith);
+  below = measured_named p valid;
   once = λ q h. order_once p.inputs p.commands valid.commands p.commands [] q refl refl;
 }
 

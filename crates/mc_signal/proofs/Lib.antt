@@ -2,3 +2,4 @@ pub mod Rising
 pub mod Merging
 pub mod Members
 pub mod Values
+pub mod RisingSets

@@ -17,69 +17,19 @@ use Rattle.mc_model.proofs.SignalLemmas.{toggled_all_rising}
 use Rattle.mc_signal.proofs.Members.{is_member-above, is_member-first, is_member-small}
 use Rattle.mc_signal.proofs.Members.{is_member-toggled_all}
 use Rattle.mc_signal.proofs.Rising.{AllAbove-lower}
+use Rattle.mc_signal.proofs.RisingSets.{member_where, rising_where, same_members}
 use Rattle.mc_bits.specs.Words.{word_bit}
 use Rattle.mc_bits.proofs.BitsOfWords.{zero_words}
 use Rattle.mc_standard.specs.NextBits.{IsNext}
 use Rattle.mc_standard.specs.Sums.{summed, HasBelow}
 
--- ---- rising lists
-
-above_from : (p : Bits) (r q n : ℕ) → r < q → AllAbove r (filter p (numbers_from q n))
-above_from p r q zero lt = tt
-above_from p r q (suc n) lt = elim (cases_Bool (p q)) [
-  | inl e ↦ rw e (lt, above_from p r (suc q) n (omega arith))
-  | inr e ↦ rw e (above_from p r (suc q) n (omega arith))
-]
-
-rising_from : (p : Bits) (q n : ℕ) → IsRising (filter p (numbers_from q n))
-rising_from p q zero = tt
-rising_from p q (suc n) = elim (cases_Bool (p q)) [
-  | inl e ↦ rw e (above_from p q (suc q) n (omega arith), rising_from p (suc q) n)
-  | inr e ↦ rw e (rising_from p (suc q) n)
-]
-
-rising_where : (p : Bits) (n : ℕ) → IsRising (numbers_where p n)
-rising_where p n = rising_from p 0 n
-
-member_where : (p : Bits) (n k : ℕ) → is_member (numbers_where p n) k ≡ (nat_lt k n && p k)
-member_where p n k = member_once (numbers_where p n) k (nat_lt k n && p k) (count-where p n k)
-
-first_member : (q : ℕ) (qs : List ℕ) → is_member (q ∷ qs) q ≡ true
-first_member q qs = rw (eq-eqb q q refl) refl
-
-cancelled : (e a b : Bool) → (e ⊻ a) ≡ (e ⊻ b) → a ≡ b
-cancelled e a b same = grind arith
-
-tail_same : (q : ℕ) (ps qs : List ℕ) (k : ℕ) → AllAbove q ps → AllAbove q qs →
-    is_member (q ∷ ps) k ≡ is_member (q ∷ qs) k → is_member ps k ≡ is_member qs k
-tail_same q ps qs k left right same =
-    cancelled (nat_eq k q) (is_member ps k) (is_member qs k)
-    (sym (is_member-first q k ps left) ∙ same ∙ is_member-first q k qs right)
-
--- a rising list is told by its members
-same_members : (ps qs : List ℕ) → IsRising ps → IsRising qs →
-    ((k : ℕ) → is_member ps k ≡ is_member qs k) → ps ≡ qs
-same_members [] [] left right same = refl
-same_members [] (q ∷ qs) left right same = absurd (false≢true (same q ∙ first_member q qs))
-same_members (p ∷ ps) [] left right same =
-    absurd (false≢true (sym (same p) ∙ first_member p ps))
-same_members (p ∷ ps) (q ∷ qs) left right same = elim (cases_order p q) [
-  | inl e ↦
-      let same' = λ (k : ℕ). ap (λ (r : ℕ). is_member (r ∷ ps) k) (sym e) ∙ same k in
-      let above : AllAbove q ps = rw e at left.0 in
-      ap₂ (λ (r : ℕ) (rs : List ℕ). r ∷ rs) e
-      (same_members ps qs left.1 right.1 (λ k. tail_same q ps qs k above right.0 (same' k)))
-  | inr other ↦ elim other [
-    | inl lt ↦ absurd
-        (false≢true (sym (is_member-above p (q ∷ qs) (lt, AllAbove-lower p q qs lt right.0))
-        ∙ sym (same p) ∙ first_member p ps))
-    | inr gt ↦ absurd
-        (false≢true (sym (is_member-above q (p ∷ ps) (gt, AllAbove-lower q p ps gt left.0))
-        ∙ same q ∙ first_member q qs))
-  ]
-]
-
 -- ---- sums
+
+below_where : (p : Bits) (n k : ℕ) → is_member (numbers_where p n) k ≡ (nat_lt k n && p k)
+below_where p n k = member_where p n k ∙ and_turned (p k) (nat_lt k n)
+  where
+    and_turned : (a b : Bool) → (a && b) ≡ (b && a)
+    and_turned a b = grind arith
 
 pub summed-rising : (words : List ℕ) (constant : Bool) → IsRising (summed words constant).members
 unfolding summed
@@ -88,7 +38,7 @@ summed-rising words constant = rising_where (word_bit words) 256
 summed-member : (words : List ℕ) (constant : Bool) (k : ℕ) →
     is_member (summed words constant).members k ≡ (nat_lt k 256 && word_bit words k)
 unfolding summed
-summed-member words constant k = member_where (word_bit words) 256 k
+summed-member words constant k = below_where (word_bit words) 256 k
 
 summed-constant : (words : List ℕ) (constant : Bool) → (summed words constant).constant ≡ constant
 unfolding summed
@@ -102,7 +52,7 @@ summed_by words constant s rising has same =
     ap₂ (λ (members : List ℕ) (b : Bool). record { members = members; constant = b })
     (same_members (numbers_where (word_bit words) 256) s.members
     (rising_where (word_bit words) 256) rising
-    (λ k. member_where (word_bit words) 256 k ∙ sym (has.at k)))
+    (λ k. below_where (word_bit words) 256 k ∙ sym (has.at k)))
     same
 
 pub different : (a b : Bool) → not (beq a b) ≡ (a ⊻ b)

@@ -1,6 +1,6 @@
 -- Sets of numbers as rising lists.
-use Rattle.std.proofs.Common.{◌≡◌, ℕ, zero, suc, ◌+◌, ◌<◌, Bool, true, false, ◌&&◌, ◌||◌}
-use Rattle.std.proofs.Common.{List, [], ◌∷◌, refl, sym, ap, ap₂, ◌∙◌, arith, nat_eq, nat_lt, nat_le}
+use Rattle.std.proofs.Common.{◌≡◌, ℕ, zero, suc, ◌<◌, Bool, true, ◌&&◌}
+use Rattle.std.proofs.Common.{List, [], ◌∷◌, refl, sym, ap, ap₂, ◌∙◌, arith, nat_eq, nat_lt}
 use Rattle.std.specs.List.{filter}
 use Rattle.std.proofs.lemmas.Bool.{eq-eqb, cases_Bool, cases_order, false≢true}
 use Rattle.std.proofs.lemmas.Bool.Decides.{nat_tests}
@@ -10,6 +10,7 @@ use Rattle.mc_model.specs.Bits.{◌⊻◌, Bits}
 use Rattle.mc_model.specs.Numbers.{numbers_from, numbers_where, is_member}
 use Rattle.mc_model.specs.Signals.{AllAbove, IsRising, toggled}
 use Rattle.mc_model.proofs.SignalLemmas.{toggled_rising}
+use Rattle.mc_model.proofs.NumberLists.{count-where, member_once}
 use Rattle.mc_signal.proofs.Members.{is_member-above, is_member-first, is_member-toggled}
 use Rattle.mc_signal.proofs.Rising.{AllAbove-lower}
 
@@ -31,42 +32,13 @@ rising_from p q (suc n) = elim (cases_Bool (p q)) [
 pub rising_where : (p : Bits) (n : ℕ) → IsRising (numbers_where p n)
 rising_where p n = rising_from p 0 n
 
-none_of : (p : Bool) (k q : ℕ) → (p && (nat_le q k && nat_lt k (q + 0))) ≡ false
-none_of p k q = grind (arith, nat_tests)
-
-member_step : (p t : Bool) (k q n : ℕ) → (k ≡ q → t ≡ p)
-    → (nat_eq k q && t || p && (nat_le (suc q) k && nat_lt k (suc q + n)))
-    ≡ (p && (nat_le q k && nat_lt k (q + suc n)))
-member_step p t k q n same = grind (arith, nat_tests)
-
-member_from : (p : Bits) (q n k : ℕ)
-    → is_member (filter p (numbers_from q n)) k ≡ (p k && (nat_le q k && nat_lt k (q + n)))
-member_from p q zero k = sym (none_of (p k) k q)
-member_from p q (suc n) k =
-    first (member_from p (suc q) n k) (p q) refl ∙ member_step (p k) (p q) k q n (λ e. ap p (sym e))
-  where
-    and_true : (b : Bool) → b ≡ (b && true)
-    and_true b = grind arith
-
-    and_false : (b c : Bool) → c ≡ (b && false || c)
-    and_false b c = grind arith
-
-    first : is_member (filter p (numbers_from (suc q) n)) k
-        ≡ (p k && (nat_le (suc q) k && nat_lt k (suc q + n)))
-        → (t : Bool) → p q ≡ t → is_member (filter p (numbers_from q (suc n))) k
-        ≡ (nat_eq k q && p q || p k && (nat_le (suc q) k && nat_lt k (suc q + n)))
-    first rest true e =
-        rw (e, rest)
-        (ap (λ (b : Bool). b || (p k && (nat_le (suc q) k && nat_lt k (suc q + n))))
-        (and_true (nat_eq k q)))
-    first rest false e =
-        rw (e, rest) (and_false (nat_eq k q) (p k && (nat_le (suc q) k && nat_lt k (suc q + n))))
-
-below_all : (b : Bool) (n k : ℕ) → (b && (nat_le 0 k && nat_lt k (0 + n))) ≡ (b && nat_lt k n)
-below_all b n k = grind (arith, nat_tests)
+and_turned : (a b : Bool) → (a && b) ≡ (b && a)
+and_turned a b = grind arith
 
 pub member_where : (p : Bits) (n k : ℕ) → is_member (numbers_where p n) k ≡ (p k && nat_lt k n)
-member_where p n k = member_from p 0 n k ∙ below_all (p k) n k
+member_where p n k =
+    member_once (numbers_where p n) k (nat_lt k n && p k) (count-where p n k)
+    ∙ and_turned (nat_lt k n) (p k)
 
 pub same_where : (p q : Bits) (n : ℕ) → ((k : ℕ) → p k ≡ q k) → numbers_where p n
     ≡ numbers_where q n

@@ -1,4 +1,4 @@
--- The measured qubits of a pattern.
+-- Each measured qubit of a valid pattern has a name.
 use Rattle.std.proofs.Common.{◌≡◌, ℕ, ◌+◌, ◌<◌, ◌≤◌, All, List, [], ◌∷◌, ◌++◌, length, refl, sym}
 use Rattle.std.proofs.Common.{append_assoc, arith}
 use Rattle.std.specs.List.{AllByRecursion}
@@ -7,7 +7,6 @@ use Rattle.mc_model.specs.Pattern.{Command, Prep, Ent, Meas, FixX, FixZ, Pattern
 use Rattle.mc_model.specs.Valid.{IsValid, IsValidPattern, prepared}
 use Rattle.mc_model.proofs.ValidLemmas.{prepared-append, moved_on}
 
--- each measured qubit of a valid pattern has a name
 behind_named : (inputs n : ℕ) (before cs : List Command) → IsValid inputs (before ++ cs)
     → inputs + prepared (before ++ cs) ≤ n → AllByRecursion (λ (q : ℕ). q < n) (measured_order cs)
 behind_named inputs n before [] valid le = tt
