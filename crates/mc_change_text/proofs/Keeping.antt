@@ -20,7 +20,7 @@ use Rattle.mc_rows.specs.Kept.{Passes}
 use Rattle.mc_rows.proofs.Printing.{taken_more}
 use Rattle.mc_change_text.specs.Kinds.{change_kind, change_row, follows_in_change, is_this, names_of}
 use Rattle.mc_change_text.specs.Kept.{IsChangeSoFar}
-use Rattle.mc_change_text.proofs.Lists.{more_get}
+use Rattle.mc_change_text.proofs.ListsWithOneMore.{more_get}
 
 this_one : (due : Option ℕ) (q : ℕ) → is_this due q ≡ true → due ≡ Some q
 this_one None q e = absurd (cc e)

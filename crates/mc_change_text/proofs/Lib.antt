@@ -1,4 +1,4 @@
-pub mod Lists
+pub mod ListsWithOneMore
 pub mod Keeping
 pub mod Fits
 pub mod Sound

@@ -27,7 +27,7 @@ use Rattle.mc_change_text.specs.Kinds.{follows_in_change, change_kind, change_ro
 use Rattle.mc_change_text.specs.Kinds.{rows_of}
 use Rattle.mc_change_text.specs.Canonical.{written_row, change_header, change_text}
 use Rattle.mc_rows.proofs.Within.{all_members}
-use Rattle.mc_change_text.proofs.Lists.{at_front, at_place, get_behind}
+use Rattle.mc_change_text.proofs.ListsWithOneMore.{at_front, at_place, get_behind}
 
 -- rows that are left, behind others, of a change of these measured qubits
 record AreLeft (n : ℕ) (second : Bool) (order : List ℕ) (done rows : List ChangeRow) : Type 0 where

@@ -19,8 +19,8 @@ use Rattle.mc_compose.proofs.ProductLaws.{ProductLaws, after-bits, after-product
 use Rattle.mc_compose.proofs.Mirrored.{AgreeOn}
 use Rattle.mc_compose.proofs.Settings.{AreApart, listed, picked, placed_listed, placed_through}
 use Rattle.mc_compose.proofs.Settings.{placed_outside}
-use Rattle.mc_compose.proofs.Places.{place_input, place_fresh, behind_apart}
-use Rattle.mc_compose.proofs.Parts.{part_same}
+use Rattle.mc_compose.proofs.SecondPlaces.{place_input, place_fresh, behind_apart}
+use Rattle.mc_compose.proofs.OwnOutcomes.{part_same}
 use Rattle.mc_compose.proofs.Renamed.{IsOutside, IsThrough, placed_keeps}
 
 module _ {E : Type 0} (ops : PhaseOps E) (laws : PhaseLaws ops) (mul : E → E → E)

@@ -12,7 +12,7 @@ use Rattle.mc_model.proofs.NumberLists.{length-numbers_from}
 use Rattle.mc_compose.specs.Composed.{placed_commands, place_behind, place_left, place_right}
 use Rattle.mc_compose.specs.Placing.{placed_in_row}
 use Rattle.mc_compose.proofs.Placed.{placed_itself, all_fit}
-use Rattle.mc_compose.proofs.Places.{input_below, place_fresh}
+use Rattle.mc_compose.proofs.SecondPlaces.{input_below, place_fresh}
 
 -- ---- rows of numbers
 

@@ -10,7 +10,7 @@ use Rattle.mc_model.specs.Pattern.{Pattern}
 use Rattle.mc_model.specs.Valid.{measured, IsValidPattern}
 use Rattle.mc_compose.specs.Composed.{AreJoined, place_behind, place_left, place_right}
 use Rattle.mc_compose.proofs.Settings.{AreApart}
-use Rattle.mc_compose.proofs.Places.{measured_below, behind_apart, place_unmeasured}
+use Rattle.mc_compose.proofs.SecondPlaces.{measured_below, behind_apart, place_unmeasured}
 use Rattle.mc_compose.proofs.SideMaps.{left_apart, right_apart, sides_apart}
 
 -- a number below `n` with the place `k`

@@ -2,8 +2,8 @@ pub mod ProductLaws
 pub mod Mirrored
 pub mod Placed
 pub mod Settings
-pub mod Places
-pub mod Parts
+pub mod SecondPlaces
+pub mod OwnOutcomes
 pub mod Renamed
 pub mod ChainMaps
 pub mod SideMaps
@@ -20,6 +20,6 @@ pub mod PlacedSets
 pub mod PlacedValid
 pub mod PlacedOutputs
 pub mod ValidPatterns
-pub mod Rows
+pub mod WorkedPatterns
 pub mod TypedPatterns
 pub mod Numbered

@@ -11,7 +11,7 @@ use Rattle.mc_model.proofs.ValidLemmas.{measured-append, prepared-append}
 use Rattle.mc_pattern.specs.declared.command.Command as code
 use Rattle.mc_pattern.specs.Commands.{plain_command}
 use Rattle.mc_compose.specs.Placing.{IsOn}
-use Rattle.mc_compose.proofs.Places.{measured_below}
+use Rattle.mc_compose.proofs.SecondPlaces.{measured_below}
 
 pub unmapped : {A B : Type 0} (P : B → Type 0) (f : A → B) (xs : List A) → All P (map f xs) →
     All (λ x. P (f x)) xs

@@ -14,9 +14,9 @@ use Rattle.mc_model.specs.Valid.{measured, IsValidPattern}
 use Rattle.mc_model.proofs.ValidLemmas.{measured-append}
 use Rattle.mc_compose.specs.Composed.{placed_commands, place_behind, place_left, place_right}
 use Rattle.mc_compose.proofs.Settings.{AreApart}
-use Rattle.mc_compose.proofs.Places.{measured_below, count_same, count_other, passing_listed}
-use Rattle.mc_compose.proofs.Places.{place_input, place_fresh, input_below, place_unmeasured}
-use Rattle.mc_compose.proofs.Places.{behind_apart}
+use Rattle.mc_compose.proofs.SecondPlaces.{measured_below, count_same, count_other, passing_listed}
+use Rattle.mc_compose.proofs.SecondPlaces.{place_input, place_fresh, input_below, place_unmeasured}
+use Rattle.mc_compose.proofs.SecondPlaces.{behind_apart}
 use Rattle.mc_compose.proofs.Renamed.{IsOutside}
 use Rattle.mc_compose.proofs.SideMaps.{left_is, right_is, left_apart, right_apart, sides_apart}
 use Rattle.mc_compose.proofs.PlacedValid.{measured-placed, measured_outside}

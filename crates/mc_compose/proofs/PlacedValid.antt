@@ -15,7 +15,7 @@ use Rattle.mc_model.proofs.ValidLemmas.{measured-append, prepared-append, moved_
 use Rattle.mc_model.proofs.ValidLemmas.{done_sum}
 use Rattle.mc_compose.specs.Composed.{placed_signal, placed_command, placed_commands}
 use Rattle.mc_compose.proofs.Settings.{AreApart}
-use Rattle.mc_compose.proofs.Places.{measured_below, size_next}
+use Rattle.mc_compose.proofs.SecondPlaces.{measured_below, size_next}
 use Rattle.mc_compose.proofs.Renamed.{IsOutside}
 
 -- ---- what placed commands prepare and measure

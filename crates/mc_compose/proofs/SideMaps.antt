@@ -20,7 +20,7 @@ use Rattle.mc_compose.specs.Composed.{side_by_side}
 use Rattle.mc_compose.proofs.ProductLaws.{ProductLaws, after-product, one-product, nought-product}
 use Rattle.mc_compose.proofs.Mirrored.{AgreeOn}
 use Rattle.mc_compose.proofs.Settings.{AreApart, placed_through, placed_outside}
-use Rattle.mc_compose.proofs.Parts.{agrees_same}
+use Rattle.mc_compose.proofs.OwnOutcomes.{agrees_same}
 use Rattle.mc_compose.proofs.Renamed.{IsOutside, IsThrough, placed_keeps}
 
 -- ---- the places

@@ -21,7 +21,7 @@ use Rattle.mc_model.proofs.ValidLemmas.{prepared-append, nothing_valid}
 use Rattle.mc_model.proofs.NameLemmas.{name_eq-true}
 use Rattle.mc_compose.specs.Composed.{placed_command, placed_commands, place_behind, place_left}
 use Rattle.mc_compose.specs.Composed.{place_right, chained, side_by_side, free_names}
-use Rattle.mc_compose.proofs.Places.{place_fresh, input_below, place_unmeasured, behind_apart}
+use Rattle.mc_compose.proofs.SecondPlaces.{place_fresh, input_below, place_unmeasured, behind_apart}
 use Rattle.mc_compose.proofs.SideMaps.{left_is, right_is, left_apart, right_apart, sides_apart}
 use Rattle.mc_compose.proofs.FreeNames.{length-free_names, behind_names}
 use Rattle.mc_compose.proofs.PlacedValid.{HavePlaces, prepared-placed, measured_outside}

@@ -1,4 +1,4 @@
-pub mod Places
+pub mod CoordinatesByPlace
 pub mod Turning
 pub mod Elements
 pub mod RootLemmas

@@ -9,7 +9,7 @@ use Rattle.mc_model.specs.Ring.{minus, rotated, rotations, length-minus}
 use Rattle.mc_model.proofs.RingLemmas.{rotations_back, rotations_add, rotations_half}
 use Rattle.mc_model.proofs.RingLemmas.{length-rotations}
 use Rattle.mc_model.proofs.RootTwo.{minus_minus}
-use Rattle.mc_cyclo.proofs.Places.{at, at-minus, drop-more, drop-whole}
+use Rattle.mc_cyclo.proofs.CoordinatesByPlace.{at, at-minus, drop-more, drop-whole}
 
 -- the part of `s` coordinates that goes round
 abbrev pub round : ℕ → List ℤ → List ℤ

@@ -51,8 +51,8 @@ use Rattle.mc_document.proofs.PatternDocuments.{nothing_stands}
 use Rattle.mc_document.proofs.PatternDocuments.{pattern_clean, pattern_stepped, pattern_taken}
 use Rattle.mc_document.proofs.PatternDocuments.{pattern_valid, second_pattern_stands, trace_stands}
 use Rattle.mc_document.proofs.PatternDocuments.{traced_back, two_back}
-use Rattle.mc_document.proofs.Taken.{branch_seen, certified_seen, circuit_seen, graphs_seen}
-use Rattle.mc_document.proofs.Taken.{one_seen, other_seen, source_seen, two_seen}
+use Rattle.mc_document.proofs.TakenKinds.{branch_seen, certified_seen, circuit_seen, graphs_seen}
+use Rattle.mc_document.proofs.TakenKinds.{one_seen, other_seen, source_seen, two_seen}
 
 -- ---- what a text without a fault spells is of a kind that is taken
 

@@ -10,7 +10,7 @@ pub mod Headers
 pub mod Joined
 pub mod Opening
 pub mod Seconds
-pub mod Taken
+pub mod TakenKinds
 pub mod Turns
 pub mod SoundCerts
 pub mod SoundTraces

@@ -12,7 +12,7 @@ use Rattle.mc_model.specs.Flow.{IsCausalFlow}
 use Rattle.mc_model.specs.Choice.{CorrectsCausally}
 use Rattle.mc_model.specs.Made.{last_before, chain_start}
 use Rattle.mc_model.proofs.Refutation.{odd_of_single, single_itself, joins_comm}
-use Rattle.mc_extract.proofs.Places.{find_cases, tally, tally_less, tally_below}
+use Rattle.mc_extract.proofs.RisingPlaces.{find_cases, tally, tally_less, tally_below}
 
 -- ---- what a causal flow gives at a vertex
 

@@ -8,7 +8,7 @@ use Rattle.mc_model.specs.Numbers.{numbers_from}
 use Rattle.mc_model.specs.Graph.{OpenGraph, size, joins, edge}
 use Rattle.mc_model.proofs.NumberLists.{numbers_below-last}
 use Rattle.mc_graph.specs.Neighbours.{neighbours, edges_up}
-use Rattle.mc_extract.proofs.Places.{tally_most, length-where}
+use Rattle.mc_extract.proofs.RisingPlaces.{tally_most, length-where}
 use Rattle.mc_extract.proofs.Rounds.{filter-filter}
 
 pub flat_more : {A : Type 0} (f : ℕ → List A) (v : ℕ) →

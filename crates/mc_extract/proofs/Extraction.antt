@@ -31,8 +31,8 @@ use Rattle.mc_extract.proofs.Wires.{input_first, wire_of_input}
 use Rattle.mc_extract.proofs.EdgeSigns.{shown, inside_same, neighbours_now}
 use Rattle.mc_extract.proofs.Ends.{first_gates, passed_all, all_born, current_at_end, IsOut}
 use Rattle.mc_extract.proofs.Ends.{outputs_out, whole_order, at_end, outputs_apart}
-use Rattle.mc_extract.proofs.Steps.{measured_back, prepared_state, so_far, IsCarried, after_cz}
-use Rattle.mc_extract.proofs.Steps.{carried_step, j_gate}
+use Rattle.mc_extract.proofs.AmplitudeSteps.{measured_back, prepared_state, so_far, IsCarried, after_cz}
+use Rattle.mc_extract.proofs.AmplitudeSteps.{carried_step, j_gate}
 
 -- ---- settings of the outputs
 

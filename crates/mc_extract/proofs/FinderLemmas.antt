@@ -28,7 +28,7 @@ use Rattle.mc_extract.specs.Rounds.{rest_after, layer_after, next_after, IsSettl
 use Rattle.mc_extract.specs.Finder.{unfound, left_in, layer_in, next_in, with_taker, found_after}
 use Rattle.mc_extract.specs.Finder.{all_found, IsAtEnd, SameLeft, first_taker, TakesBelow}
 use Rattle.mc_extract.specs.Finder.{NotesTakers}
-use Rattle.mc_extract.proofs.Places.{find_cases, find_least}
+use Rattle.mc_extract.proofs.RisingPlaces.{find_cases, find_least}
 use Rattle.mc_extract.proofs.Rounds.{find-same, corrector-same, left_within, chosen_stuck_set}
 use Rattle.mc_extract.proofs.Rounds.{chosen_causal_flow, same_or_other, settled_on}
 use Rattle.mc_extract.proofs.Rounds.{rounds_settle, taken_by}

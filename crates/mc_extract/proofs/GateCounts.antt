@@ -22,7 +22,7 @@ use Rattle.mc_model.specs.Made.{fixed_gates, extracted_gates, extracted_circuit}
 use Rattle.mc_model.proofs.BitLemmas.{and_true, xor_false}
 use Rattle.mc_model.proofs.OddSums.{xor_and, and_false}
 use Rattle.mc_model.proofs.PairLemmas.{pair_ends}
-use Rattle.mc_extract.proofs.Places.{tally, tally_most, length-where}
+use Rattle.mc_extract.proofs.RisingPlaces.{tally, tally_most, length-where}
 use Rattle.mc_extract.proofs.Chains.{corrects_causally}
 use Rattle.mc_extract.proofs.Passing.{IsPassed, nothing_passed, passed_on, next_to_pass}
 use Rattle.mc_extract.proofs.Passing.{IsNextToPass, is_born, born_here, born_step, unborn_next}

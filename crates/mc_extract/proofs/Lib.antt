@@ -1,9 +1,9 @@
-pub mod Places
+pub mod RisingPlaces
 pub mod Chains
 pub mod Passing
 pub mod Wires
 pub mod EdgeSigns
-pub mod Steps
+pub mod AmplitudeSteps
 pub mod Ends
 pub mod Extraction
 pub mod ExtractedFrom

@@ -22,8 +22,8 @@ use Rattle.mc_extract.specs.Rounds.{sole, only_neighbour, is_some_of, taken_vert
 use Rattle.mc_extract.specs.Rounds.{corrector, rest_after, layer_after, next_after, IsSettled}
 use Rattle.mc_extract.specs.Rounds.{IsAllTaken}
 use Rattle.mc_graph.proofs.ListedNumbers.{numbers_where-rise, member-where}
-use Rattle.mc_extract.proofs.Places.{find_cases, find_least}
-use Rattle.mc_extract.proofs.Places.{tally, tally_less, tally_most}
+use Rattle.mc_extract.proofs.RisingPlaces.{find_cases, find_least}
+use Rattle.mc_extract.proofs.RisingPlaces.{tally, tally_less, tally_most}
 use Rattle.mc_extract.proofs.Chains.{corrects_causally}
 
 -- ---- a causal flow from what corrects each vertex

@@ -23,7 +23,7 @@ use Rattle.mc_model.specs.Made.{cz_gate, gates_at, fixed_gates, extracted_gates,
 use Rattle.mc_make.proofs.MeasuringOrder.{IsWhere, where_all, all-weaker}
 use Rattle.mc_model.proofs.NumberLists.{member_once}
 use Rattle.mc_graph.proofs.ListedNumbers.{numbers_where-rise}
-use Rattle.mc_extract.proofs.Places.{tally_most, length-where}
+use Rattle.mc_extract.proofs.RisingPlaces.{tally_most, length-where}
 use Rattle.mc_extract.proofs.Chains.{corrects_causally}
 use Rattle.mc_extract.proofs.Passing.{IsPassed, nothing_passed, passed_on, next_to_pass}
 use Rattle.mc_extract.proofs.Passing.{current_next}

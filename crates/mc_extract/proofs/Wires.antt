@@ -9,7 +9,7 @@ use Rattle.mc_model.specs.Flow.{IsCausalFlow}
 use Rattle.mc_model.specs.Made.{is_first, is_current, chain_start, first_vertices, wire_of}
 use Rattle.mc_extract.specs.Chains.{place}
 use Rattle.mc_graph.proofs.ListedNumbers.{numbers_where-rise, member-where, member-where-true}
-use Rattle.mc_extract.proofs.Places.{place_at, place_of_member, member_at_place, where_first}
+use Rattle.mc_extract.proofs.RisingPlaces.{place_at, place_of_member, member_at_place, where_first}
 use Rattle.mc_extract.proofs.Chains.{corrects_causally, before_cases, next_of, rank_below}
 use Rattle.mc_extract.proofs.Chains.{start_of_first, starts, same_start}
 use Rattle.mc_extract.proofs.Passing.{IsNextToPass, first_is, current_here, current_next}

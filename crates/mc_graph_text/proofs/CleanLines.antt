@@ -20,7 +20,7 @@ use Rattle.mc_text.specs.Heads.{head_of}
 use Rattle.mc_text.specs.Points.{point_of}
 use Rattle.mc_text.specs.Judged.{Words, Lines}
 use Rattle.mc_text.specs.Rules.{known_name}
-use Rattle.mc_text.proofs.Going.{head_at}
+use Rattle.mc_text.proofs.ReadingGoesOn.{head_at}
 use Rattle.mc_text.proofs.Kept.{count_some}
 use Rattle.mc_text.proofs.Clean.{CleanWords}
 use Rattle.mc_text.proofs.Members.{first_new}

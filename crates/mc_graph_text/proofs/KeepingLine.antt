@@ -9,7 +9,7 @@ use Rattle.mc_text.specs.Points.{point_of, last_head}
 use Rattle.mc_text.specs.Judged.{Words, Lines}
 use Rattle.mc_text.specs.Rules.{AreNumbers}
 use Rattle.mc_text.proofs.Done.{last_head-more}
-use Rattle.mc_text.proofs.Going.{head_at}
+use Rattle.mc_text.proofs.ReadingGoesOn.{head_at}
 use Rattle.mc_text.proofs.Kept.{count_some, names_at-line}
 use Rattle.mc_graph_text.specs.declared.reader.Reader.{Reader}
 use Rattle.mc_graph_text.specs.Roles.{role_of, output, is_input, is_output, is_fixing_x}

@@ -14,7 +14,7 @@ use Rattle.mc_text.specs.Judged.{Words, Lines}
 use Rattle.mc_text.specs.Rules.{AreNumbers}
 use Rattle.mc_text.specs.Lists.{names_at, added}
 use Rattle.mc_text.proofs.NamesHere.{names_stay}
-use Rattle.mc_text.proofs.Going.{head_at}
+use Rattle.mc_text.proofs.ReadingGoesOn.{head_at}
 use Rattle.mc_text.proofs.Kept.{count_at, count_some, names_at-word, added_none, place-more}
 use Rattle.mc_text.proofs.Kept.{numbers-word, numbers-more}
 use Rattle.mc_graph.specs.Rules.{angle_rule}

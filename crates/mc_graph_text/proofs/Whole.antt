@@ -15,7 +15,7 @@ use Rattle.mc_text.specs.Judged.{Words, Lines}
 use Rattle.mc_text.specs.Rules.{number_in, new_name, known_name}
 use Rattle.mc_text.specs.Lists.{added}
 use Rattle.mc_text.proofs.Done.{last_head-more}
-use Rattle.mc_text.proofs.Going.{head_at}
+use Rattle.mc_text.proofs.ReadingGoesOn.{head_at}
 use Rattle.mc_text.proofs.Kept.{count_at, place-more}
 use Rattle.mc_text.proofs.Numbers.{held-place, place-held}
 use Rattle.mc_graph.specs.Rules.{has_angle, angle_rule}

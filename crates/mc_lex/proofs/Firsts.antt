@@ -11,7 +11,7 @@ use Rattle.mc_lex.specs.Bytes.{is_feed, is_hash, is_blank, is_word_byte}
 use Rattle.mc_lex.specs.Lines.{Item, word, bad, tokens, starts_word}
 use Rattle.mc_lex.specs.First.{starts_blank, starts_seen}
 use Rattle.mc_lex.specs.Parts.{in_view, behind_feed, IsFirst}
-use Rattle.mc_lex.proofs.Steps.{feed_len, tokens-blanks, blanks-stop, tokens-word, tokens-bad}
+use Rattle.mc_lex.proofs.NextTokens.{feed_len, tokens-blanks, blanks-stop, tokens-word, tokens-bad}
 
 -- behind the first element
 abbrev pub rest_of : List ℕ → List ℕ

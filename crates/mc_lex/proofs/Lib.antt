@@ -1,4 +1,4 @@
-pub mod Steps
+pub mod NextTokens
 pub mod Firsts
 pub mod LinesInParts
 pub mod Spots

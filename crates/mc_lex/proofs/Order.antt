@@ -8,7 +8,7 @@ use Rattle.mc_lex.specs.Bytes.{is_blank, is_word_byte}
 use Rattle.mc_lex.specs.Lines.{Item, word, bad, Line, tokens, visible, parts_of, with_items}
 use Rattle.mc_lex.specs.Lines.{numbered}
 use Rattle.mc_lex.specs.Places.{InOrder, RisingFrom, LinesInOrder}
-use Rattle.mc_lex.proofs.Steps.{tokens-word, tokens-bad}
+use Rattle.mc_lex.proofs.NextTokens.{tokens-word, tokens-bad}
 
 earlier : (line column : ℕ) (items : List Item) → InOrder line (column + 1) items
     → InOrder line column items

@@ -13,7 +13,7 @@ use Rattle.mc_lex.specs.Bytes.{is_feed, is_hash, is_blank, is_word_byte}
 use Rattle.mc_lex.specs.Lines.{Item, word, bad, Line, starts_word, tokens, visible, parts_of}
 use Rattle.mc_lex.specs.Lines.{onto_first, line_of, with_items, numbered, lines_of}
 use Rattle.mc_lex.specs.Places.{offset, IsSlice, ends_word, IsRun, IsStray, IsAt, WordsAreSlices}
-use Rattle.mc_lex.proofs.Steps.{tokens-word, tokens-bad, run-stops}
+use Rattle.mc_lex.proofs.NextTokens.{tokens-word, tokens-bad, run-stops}
 
 -- a slice with more bytes in front of the text, and with more behind it
 abbrev slice_later : (front text : List ℕ) (at : ℕ) (bytes : List ℕ) → IsSlice text at bytes

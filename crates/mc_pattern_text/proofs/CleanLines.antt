@@ -31,7 +31,7 @@ use Rattle.mc_text.specs.Points.{mark_of, point_of}
 use Rattle.mc_text.specs.Judged.{Words, Lines}
 use Rattle.mc_text.specs.Rules.{new_name}
 use Rattle.mc_text.specs.Lists.{names_at}
-use Rattle.mc_text.proofs.Going.{head_at}
+use Rattle.mc_text.proofs.ReadingGoesOn.{head_at}
 use Rattle.mc_text.proofs.Kept.{count_at, name_no_mark}
 use Rattle.mc_text.proofs.Clean.{CleanWords}
 use Rattle.mc_text.proofs.Naming.{is_name-name_at, names_apart}

@@ -21,8 +21,8 @@ use Rattle.mc_text.specs.Judged.{Words, Lines}
 use Rattle.mc_text.specs.Lists.{names_at}
 use Rattle.mc_text.specs.Places.{words_by}
 use Rattle.mc_text.proofs.Clean.{CleanWords}
-use Rattle.mc_text.proofs.Going.{point_of-more}
-use Rattle.mc_text.proofs.Places.{words_by-last}
+use Rattle.mc_text.proofs.ReadingGoesOn.{point_of-more}
+use Rattle.mc_text.proofs.WordsAdded.{words_by-last}
 use Rattle.mc_text.specs.declared.fault.Fault.TheVariants.{NotMeasured}
 use Rattle.mc_text.specs.Rules.{number_in, broken, listed_name}
 use Rattle.mc_text.specs.Rules.{known_name}

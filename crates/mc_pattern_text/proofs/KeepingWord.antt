@@ -13,7 +13,7 @@ use Rattle.mc_text.specs.Points.{point_of}
 use Rattle.mc_text.specs.Judged.{Words, Lines}
 use Rattle.mc_text.specs.Rules.{AreNumbers}
 use Rattle.mc_text.specs.Lists.{names_at, added, operand_at}
-use Rattle.mc_text.proofs.Going.{head_at}
+use Rattle.mc_text.proofs.ReadingGoesOn.{head_at}
 use Rattle.mc_text.proofs.Kept.{count_at, names_at-word, numbers-word}
 use Rattle.mc_text.proofs.Kept as lists
 use Rattle.mc_pattern_text.specs.declared.reader.Reader.{Reader}

@@ -16,7 +16,7 @@ use Rattle.mc_text.specs.Heads.{head_of, head_in, is_end}
 use Rattle.mc_text.specs.Points.{point_of}
 use Rattle.mc_text.specs.Judged.{Words, Lines, Place, first_in_section, section_lines}
 use Rattle.mc_text.specs.Rules.{number_in, known_name, listed_name}
-use Rattle.mc_text.proofs.Going.{head_at}
+use Rattle.mc_text.proofs.ReadingGoesOn.{head_at}
 use Rattle.mc_text.proofs.Numbers.{held-place, place-held}
 use Rattle.mc_text.proofs.Unbroken.{known_is, listed_is, next_none}
 use Rattle.mc_rows.specs.declared.row.Row.{Row}

@@ -18,7 +18,7 @@ use Rattle.mc_text.specs.Points.{point_of, last_head}
 use Rattle.std.proofs.lemmas.List.Sums.{fold-append}
 use Rattle.mc_text.specs.Judged.{Judgement, Words, Lines}
 use Rattle.mc_text.specs.Rules.{or_next, known_name, fixed_word, number_in, number_word}
-use Rattle.mc_text.proofs.Going.{head_at}
+use Rattle.mc_text.proofs.ReadingGoesOn.{head_at}
 use Rattle.mc_rows.specs.declared.row.Shape.{Shape}
 use Rattle.mc_rows.specs.declared.row.Shape.TheVariants.{Bare, Numbered, Ranked, Listed}
 use Rattle.mc_rows.specs.declared.row.Shape.TheVariants.{Set, NamedSet, RankedSet}

@@ -25,7 +25,7 @@ use Rattle.mc_run.specs.Gates.{IsLiving, command_step, live_behind, IsReady, Are
 use Rattle.mc_run.specs.Branches.{CommandsLeft, Ignores}
 use Rattle.mc_run.proofs.Turns.{Obeys}
 use Rattle.mc_run.proofs.Digits.{length-without}
-use Rattle.mc_run.proofs.Steps.{prep_holds, ent_holds, x_holds, z_holds, meas_holds}
+use Rattle.mc_run.proofs.StepsKeepAmplitudes.{prep_holds, ent_holds, x_holds, z_holds, meas_holds}
 use Rattle.mc_run.proofs.GatesLeft.{member_below}
 use Rattle.mc_run.proofs.InputVectors.{length-below, start_ignores}
 use Rattle.mc_run.proofs.UntouchedQubits.{grows, fits_miss, act_ignores}

@@ -15,7 +15,7 @@ use Rattle.mc_run.specs.Exact.{Exact, phases}
 use Rattle.mc_run.specs.Sources.{IsStepped, Holds}
 use Rattle.mc_run.specs.Gates.{gate_step, IsGateReady, IsLowFor}
 use Rattle.mc_run.proofs.Turns.{Obeys}
-use Rattle.mc_run.proofs.Steps.{cz_holds, j_holds}
+use Rattle.mc_run.proofs.StepsKeepAmplitudes.{cz_holds, j_holds}
 
 pub member_below : (n q : ℕ) → q < n → is_member (numbers_below n) q ≡ true
 member_below zero q h = absurd (omega arith)

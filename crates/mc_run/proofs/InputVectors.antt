@@ -15,7 +15,7 @@ use Rattle.mc_run.specs.Sources.{entry, IsStepped, Holds}
 use Rattle.mc_run.specs.declared.step.Step.TheVariants.{Input, Prep}
 use Rattle.mc_run.proofs.Turns.{Obeys}
 use Rattle.mc_run.specs.Branches.{Ignores}
-use Rattle.mc_run.proofs.Steps.{input_holds, prep_holds}
+use Rattle.mc_run.proofs.StepsKeepAmplitudes.{input_holds, prep_holds}
 
 pub length-below : (n : ℕ) → length (numbers_below n) ≡ n
 length-below zero = refl

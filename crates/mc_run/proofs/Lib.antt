@@ -1,10 +1,10 @@
 pub mod Digits
-pub mod Places
+pub mod PlacesOfQubits
 pub mod Pairs
-pub mod Passes
+pub mod PassesInPlace
 pub mod WrittenEntries
 pub mod Turns
-pub mod Steps
+pub mod StepsKeepAmplitudes
 pub mod Vectors
 pub mod InputVectors
 pub mod StepPlaces

@@ -14,7 +14,7 @@ use Rattle.mc_run.specs.declared.step.Step.TheVariants.{Ent, X, Z, J}
 use Rattle.mc_run.proofs.Turns.{Obeys}
 use Rattle.mc_run.proofs.Pairs.{pair_of, place_in_pair, pair_of_more, digit_more, with_digit_more}
 use Rattle.mc_run.proofs.Pairs.{more_within}
-use Rattle.mc_run.proofs.Passes.{Passed, pass_one, pass_pair}
+use Rattle.mc_run.proofs.PassesInPlace.{Passed, pass_one, pass_pair}
 
 -- an entry that was read
 pub seen_at : {A : Type 0} (seen : A → List ℤ) (xs : List A) (i : ℕ) (x : A) → i < length xs →

@@ -12,7 +12,7 @@ use Rattle.mc_rules.specs.Parts.{AllOf}
 use Rattle.mc_rules.specs.Parts.{part_of}
 use Rattle.mc_shift.specs.Shifts.{IsPutIn, IsFixPutIn, TellsOld}
 use Rattle.mc_shift.proofs.PutIn.{signal_put, tells_more}
-use Rattle.mc_shift.proofs.Places.{IsMeasured, FixDone}
+use Rattle.mc_shift.proofs.StandsBefore.{IsMeasured, FixDone}
 
 pub shifted_append : (rows : List ChangeRow) (cs ds es fs : List Command) → IsShifted rows cs ds →
     IsShifted rows es fs → IsShifted rows (cs ++ es) (ds ++ fs)

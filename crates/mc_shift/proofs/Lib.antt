@@ -4,7 +4,7 @@ pub mod NewOutcomes
 pub mod ShiftedForm
 pub mod ShiftedValid
 pub mod Halfway
-pub mod Places
+pub mod StandsBefore
 pub mod PutIn
 pub mod ShiftedStandard
 pub mod Unshifted

@@ -21,7 +21,7 @@ use Rattle.mc_text.specs.Headers.{header_rules, half_by}
 use Rattle.mc_text.specs.Headers.{version_behind, IsBehind}
 use Rattle.mc_text.specs.Stops.{IsStop}
 use Rattle.mc_text.specs.Takes.{TakesWord, StopsAtWord}
-use Rattle.mc_text.proofs.Going.{first-cons, none_first}
+use Rattle.mc_text.proofs.ReadingGoesOn.{first-cons, none_first}
 use Rattle.mc_text.proofs.Kept.{count_at}
 
 pub ruleset of_first = (first-cons, none_first)

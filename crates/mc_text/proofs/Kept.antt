@@ -22,7 +22,7 @@ use Rattle.mc_text.specs.Judged.{Words, Lines}
 use Rattle.mc_text.specs.Rules.{number_in, AreNumbers}
 use Rattle.mc_text.specs.Lists.{names_in, names_at, added, operand_at, next_operand, operands_at}
 use Rattle.mc_text.specs.Lists.{begun, count_of}
-use Rattle.mc_text.proofs.Going.{head_at, not_first}
+use Rattle.mc_text.proofs.ReadingGoesOn.{head_at, not_first}
 use Rattle.mc_text.proofs.Numbers.{held-place, place-held}
 
 -- how many words stand before, up to four

@@ -1,5 +1,5 @@
 pub mod Ends
-pub mod Going
+pub mod ReadingGoesOn
 pub mod Done
 pub mod Heading
 pub mod Numbers
@@ -15,7 +15,7 @@ pub mod Naming
 pub mod HeadersBack
 pub mod GoesOn
 pub mod NoLimits
-pub mod Places
+pub mod WordsAdded
 pub mod Members
 pub mod FirstNames
 pub mod NamesHere

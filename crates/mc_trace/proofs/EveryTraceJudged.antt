@@ -27,7 +27,7 @@ use Rattle.mc_trace.proofs.EqualLists.{IsOrNot, all_equal}
 use Rattle.mc_trace.proofs.FittingLines.{fits_rewritten, fits_made, drops_x, drops_z, keeps_x}
 use Rattle.mc_trace.proofs.FittingLines.{keeps_z}
 use Rattle.mc_trace.proofs.Leading.{reach_two}
-use Rattle.mc_trace.proofs.Rows.{prep_is}
+use Rattle.mc_trace.proofs.RowRules.{prep_is}
 use Rattle.mc_trace.proofs.ValidOrNot.{valid_or_not}
 use Rattle.mc_trace.proofs.Verdicts.{judged_yes, judged_no}
 

@@ -6,7 +6,7 @@ pub mod EveryTraceJudged
 pub mod FittingLines
 pub mod Leading
 pub mod RoundLemmas
-pub mod Rows
+pub mod RowRules
 pub mod SettledRounds
 pub mod UsesServe
 pub mod Verdicts

@@ -12,7 +12,7 @@ use Rattle.mc_text.specs.Judged.{Words, Lines}
 use Rattle.mc_text.specs.Rules.{AreNumbers}
 use Rattle.mc_text.specs.Lists.{names_at, begun}
 use Rattle.mc_text.specs.Stops.{IsStop}
-use Rattle.mc_text.proofs.Going.{head_at}
+use Rattle.mc_text.proofs.ReadingGoesOn.{head_at}
 use Rattle.mc_text.proofs.Kept.{count_at, count_some, names_at-line, numbers-none, numbers-word}
 use Rattle.mc_text.proofs.Kept.{numbers-more}
 use Rattle.mc_wires.specs.declared.wires.Wires.{Wires}

@@ -1,6 +1,6 @@
 use Rattle.std.proofs.Common.{arith, w64, FitsSigned}
 use Rattle.std.proofs.lemmas.Int.{ints, to_z-of_z, fits_signed_from_abs}
-use Rattle.mc_cyclo.proofs.Places.{at, at-height, sum_by_places}
+use Rattle.mc_cyclo.proofs.CoordinatesByPlace.{at, at-height, sum_by_places}
 use Rattle.mc_cyclo.proofs.coordinates.add_to.Goals as goal
 
 pub sum_of-requires-clause-low_x : goal.sum_of-requires-clause-low_x

@@ -1,5 +1,5 @@
 use Rattle.std.proofs.Common.{◌≡◌, ℕ, ◌<◌, ◌≤◌, ◌+ℤ◌}
-use Rattle.mc_cyclo.proofs.Places.{at}
+use Rattle.mc_cyclo.proofs.CoordinatesByPlace.{at}
 use Rattle.mc_cyclo.proofs.coordinates.add_to.Given as goal
 
 abbrev pub invariant-loop-k : goal.invariant-loop-k

@@ -7,7 +7,7 @@ use Rattle.std.proofs.lemmas.Int.{ints, to_z-of_z, fits_signed_from_abs}
 use Rattle.mc_model.specs.Ring.{minus, rotations, length-minus}
 use Rattle.mc_model.proofs.RingLemmas.{length-rotations}
 use Rattle.mc_model.proofs.Heights.{height-rotations}
-use Rattle.mc_cyclo.proofs.Places.{at, at-height, at-minus, sum_by_places}
+use Rattle.mc_cyclo.proofs.CoordinatesByPlace.{at, at-height, at-minus, sum_by_places}
 use Rattle.mc_cyclo.proofs.coordinates.cross.Goals as goal
 
 pub sum_of-requires-clause-low_x : goal.sum_of-requires-clause-low_x

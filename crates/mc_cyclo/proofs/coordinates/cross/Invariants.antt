@@ -1,7 +1,7 @@
 use Rattle.std.proofs.Common.{◌≡◌, ℕ, ◌<◌, ◌+ℤ◌}
 use lib.IntN.{neg_ℤ}
 use Rattle.mc_model.specs.Ring.{rotations}
-use Rattle.mc_cyclo.proofs.Places.{at}
+use Rattle.mc_cyclo.proofs.CoordinatesByPlace.{at}
 use Rattle.mc_cyclo.proofs.coordinates.cross.Given as goal
 
 abbrev pub invariant-loop-i : goal.invariant-loop-i

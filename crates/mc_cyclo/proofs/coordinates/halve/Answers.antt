@@ -1,7 +1,7 @@
 use Rattle.std.proofs.Common.{arith, ◌≡◌, ◌≢◌, ◌^◌, ◌<◌, ◌∙◌, sym, ap, length, below_more}
 use Rattle.std.proofs.Common.{get_or-set_same, get_or-set_other, w64, FitsSigned, ◌+ℤ◌, refl}
 use Rattle.std.proofs.lemmas.Int.{ints, to_z-of_z, fits_signed_from_abs}
-use Rattle.mc_cyclo.proofs.Places.{at, at-height, at-plus, height-below, sum_by_places}
+use Rattle.mc_cyclo.proofs.CoordinatesByPlace.{at, at-height, at-plus, height-below, sum_by_places}
 use Rattle.mc_cyclo.proofs.coordinates.halve.Goals as goal
 
 pub half_of-requires : goal.half_of-requires

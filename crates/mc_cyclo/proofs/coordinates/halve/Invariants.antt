@@ -1,6 +1,6 @@
 use Rattle.std.proofs.Common.{◌≡◌, ℕ, ◌^◌, ◌<◌, ◌≤◌, ◌+ℤ◌}
 use Rattle.std.specs.Int.RustNames.{unsigned_abs}
-use Rattle.mc_cyclo.proofs.Places.{at}
+use Rattle.mc_cyclo.proofs.CoordinatesByPlace.{at}
 use Rattle.mc_cyclo.proofs.coordinates.halve.Given as goal
 
 abbrev pub invariant-loop-k : goal.invariant-loop-k

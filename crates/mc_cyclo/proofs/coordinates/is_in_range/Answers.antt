@@ -1,6 +1,6 @@
 use Rattle.std.proofs.Common.{arith, rules, ◌^◌}
 use Rattle.std.proofs.lemmas.Int.{ints}
-use Rattle.mc_cyclo.proofs.Places.{at-height, height-below}
+use Rattle.mc_cyclo.proofs.CoordinatesByPlace.{at-height, height-below}
 use Rattle.mc_cyclo.proofs.coordinates.is_in_range.Goals as goal
 
 pub returns-then-unsigned_abs-gt-MOST : goal.returns-then-unsigned_abs-gt-MOST

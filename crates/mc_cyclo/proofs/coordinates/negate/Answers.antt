@@ -1,6 +1,6 @@
 use Rattle.std.proofs.Common.{arith, w64, FitsSigned}
 use Rattle.std.proofs.lemmas.Int.{to_z-of_z, fits_signed_from_abs}
-use Rattle.mc_cyclo.proofs.Places.{at, at-height, negative_by_places}
+use Rattle.mc_cyclo.proofs.CoordinatesByPlace.{at, at-height, negative_by_places}
 use Rattle.mc_cyclo.proofs.coordinates.negate.Goals as goal
 
 pub negative_of-requires : goal.negative_of-requires

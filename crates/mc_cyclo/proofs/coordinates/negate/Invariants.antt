@@ -1,6 +1,6 @@
 use Rattle.std.proofs.Common.{◌≡◌, ℕ, ◌<◌, ◌≤◌}
 use lib.IntN.{neg_ℤ}
-use Rattle.mc_cyclo.proofs.Places.{at}
+use Rattle.mc_cyclo.proofs.CoordinatesByPlace.{at}
 use Rattle.mc_cyclo.proofs.coordinates.negate.Given as goal
 
 abbrev pub invariant-loop-k : goal.invariant-loop-k

@@ -6,7 +6,7 @@ use Rattle.std.proofs.lemmas.List.{ext_get_or}
 use Rattle.mc_model.specs.Ring.{rotations}
 use Rattle.mc_model.proofs.RingLemmas.{length-rotations}
 use Rattle.mc_model.proofs.Heights.{height-rotations}
-use Rattle.mc_cyclo.proofs.Places.{at, at-height}
+use Rattle.mc_cyclo.proofs.CoordinatesByPlace.{at, at-height}
 use Rattle.mc_cyclo.proofs.coordinates.turn_by_steps.Goals as goal
 
 pub loop-i-preserved : goal.loop-i-preserved

@@ -2,7 +2,7 @@ use Rattle.std.proofs.Common.{arith, ℕ, ◌≡◌, ◌+◌, ◌-◌, ◌∙◌
 use Rattle.std.proofs.Common.{FitsSigned}
 use Rattle.std.proofs.lemmas.Int.{ints, to_z-of_z, fits_signed_from_abs}
 use Rattle.std.specs.Int.RustNames.{unsigned_abs}
-use Rattle.mc_cyclo.proofs.Places.{at, at-height}
+use Rattle.mc_cyclo.proofs.CoordinatesByPlace.{at, at-height}
 use Rattle.mc_cyclo.proofs.Turning.{at-round, at-stayed}
 use Rattle.mc_cyclo.proofs.coordinates.turned_at.Goals as goal
 

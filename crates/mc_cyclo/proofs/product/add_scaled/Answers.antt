@@ -3,7 +3,7 @@ use Rattle.std.proofs.Common.{get_or-set_other, w64, FitsSigned, ◌+ℤ◌}
 use Rattle.std.proofs.lemmas.Int.{ints, to_z-of_z, fits_signed_from_abs}
 use lib.IntN.{◌*ℤ◌}
 use mir.Syntax.{w128}
-use Rattle.mc_cyclo.proofs.Places.{at, at-height, scaled_sum_by_places}
+use Rattle.mc_cyclo.proofs.CoordinatesByPlace.{at, at-height, scaled_sum_by_places}
 use Rattle.mc_cyclo.proofs.product.add_scaled.Goals as goal
 
 pub multiply_add-requires-clause-low_y : goal.multiply_add-requires-clause-low_y

@@ -3,7 +3,7 @@ use Rattle.std.proofs.lemmas.Int.{ints, to_z-of_z, fits_signed_from_abs}
 use Rattle.mc_model.specs.Ring.{plus, scaled, rotated, length-times}
 use Rattle.mc_model.specs.Height.{height}
 use Rattle.mc_model.proofs.Heights.{height-rotated, height-zeros}
-use Rattle.mc_cyclo.proofs.Places.{at, at-height, times_none, times_more, height_more}
+use Rattle.mc_cyclo.proofs.CoordinatesByPlace.{at, at-height, times_none, times_more, height_more}
 use Rattle.mc_cyclo.proofs.product.multiply.Goals as goal
 
 pub loop-i-init : goal.loop-i-init

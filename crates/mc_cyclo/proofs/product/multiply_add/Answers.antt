@@ -2,7 +2,7 @@ use Rattle.std.proofs.Common.{arith, ◌^◌, w64, FitsSigned, ◌+ℤ◌}
 use Rattle.std.proofs.lemmas.Int.{ints, to_z-of_z, fits_signed_from_abs, fits_signed_mul}
 use lib.IntN.{◌*ℤ◌}
 use mir.Syntax.{w128}
-use Rattle.mc_cyclo.proofs.Places.{small_sum}
+use Rattle.mc_cyclo.proofs.CoordinatesByPlace.{small_sum}
 use Rattle.mc_cyclo.proofs.product.multiply_add.Goals as goal
 
 pub overflow_add-result : goal.overflow_add-result

@@ -1,5 +1,5 @@
 use Rattle.std.proofs.Common.{arith, sym, pos, ◌∙◌, ◌^◌}
-use Rattle.mc_cyclo.proofs.Places.{at-height, height-below}
+use Rattle.mc_cyclo.proofs.CoordinatesByPlace.{at-height, height-below}
 use Rattle.std.proofs.lemmas.List.{ext_get_or}
 use Rattle.std.proofs.lemmas.Int.{ints}
 use Rattle.mc_cyclo.proofs.product.narrow.Goals as goal

@@ -2,7 +2,7 @@ use Rattle.std.proofs.Common.{arith, ◌≡◌, ◌-◌, length, FitsSigned}
 use Rattle.std.proofs.lemmas.Int.{to_z-of_z, fits_signed_from_abs}
 use mir.Syntax.{w128}
 use lib.IntN.{neg_ℤ}
-use Rattle.mc_cyclo.proofs.Places.{at, at-height}
+use Rattle.mc_cyclo.proofs.CoordinatesByPlace.{at, at-height}
 use Rattle.mc_cyclo.proofs.Turning.{first_is_last, turned_once}
 use Rattle.mc_cyclo.proofs.product.turn_once.Goals as goal
 

@@ -2,7 +2,7 @@ use Rattle.std.proofs.Common.{arith}
 use Rattle.std.proofs.lemmas.List.{length-drop}
 use Rattle.mc_io.specs.Calls.{WritesOn}
 use Rattle.mc_io.proofs.Told.{AppendsWhereTold-nil}
-use Rattle.mc_io.proofs.Parts.{rest_of, told_more}
+use Rattle.mc_io.proofs.PartsOfBytes.{rest_of, told_more}
 use Rattle.mc_io.proofs.whole.write_all.Goals as goal
 
 pub loop-done-init : goal.loop-done-init

@@ -1,5 +1,5 @@
 use Rattle.std.proofs.Common.{refl}
-use Rattle.mc_lex.proofs.Steps.{blanks-stop}
+use Rattle.mc_lex.proofs.NextTokens.{blanks-stop}
 use Rattle.mc_lex.proofs.Firsts.{none_later, some_later, first_later, tokens-later}
 use Rattle.mc_lex.proofs.part.first_token.Goals as goal
 

@@ -7,7 +7,7 @@ use Rattle.mc_pattern.specs.Commands.{plain_command}
 use Rattle.mc_run.specs.Sources.{source, CanTake, IsLongFor}
 use Rattle.mc_run.specs.Gates.{command_step}
 use Rattle.mc_run.proofs.StepPlaces.{command_there, command_long}
-use Rattle.mc_run.proofs.Places.{longest, measured_live}
+use Rattle.mc_run.proofs.PlacesOfQubits.{longest, measured_live}
 use Rattle.mc_run.proofs.commands.commanded.Goals as goal
 
 pub live_behind-requires : goal.live_behind-requires

@@ -1,6 +1,6 @@
 use Rattle.std.proofs.Common.{◌+◌, ap, ap₂, ◌∙◌}
 use Rattle.mc_model.specs.Phase.{negated, measured_angle}
-use Rattle.mc_run.proofs.Places.{negated_modulo}
+use Rattle.mc_run.proofs.PlacesOfQubits.{negated_modulo}
 use Rattle.mc_run.proofs.commands.turn_of.Goals as goal
 
 pub returns-clause-turn : goal.returns-clause-turn

@@ -1,6 +1,6 @@
 use Rattle.std.proofs.Common.{◌∙◌, arith, ap}
 use Rattle.std.specs.Prelude.{remove}
-use Rattle.mc_run.proofs.Places.{place_below, without_place}
+use Rattle.mc_run.proofs.PlacesOfQubits.{place_below, without_place}
 use Rattle.mc_run.specs.Settings.{place}
 use Rattle.mc_run.proofs.commands.without_qubit.Goals as goal
 

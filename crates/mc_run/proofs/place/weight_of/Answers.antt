@@ -1,6 +1,6 @@
 use Rattle.std.proofs.Common.{◌≤◌, ◌∙◌, arith, ap, ◌^◌}
 use Rattle.std.proofs.Math.Pow.{pow_mono}
-use Rattle.mc_run.proofs.Places.{place_below, weight_place}
+use Rattle.mc_run.proofs.PlacesOfQubits.{place_below, weight_place}
 use Rattle.mc_run.proofs.place.weight_of.Goals as goal
 
 pub two_to-requires : goal.two_to-requires

@@ -8,7 +8,7 @@ use Rattle.mc_run.specs.Sources.{entry, taken, source, ArePairs}
 use Rattle.mc_run.specs.declared.step.Step.TheVariants.{J}
 use Rattle.mc_run.proofs.Turns.{obeys}
 use Rattle.mc_run.proofs.Pairs.{pair_of, pair_below}
-use Rattle.mc_run.proofs.Passes.{Passed, pass_begins, pass_over}
+use Rattle.mc_run.proofs.PassesInPlace.{Passed, pass_begins, pass_over}
 use Rattle.mc_run.proofs.WrittenEntries.{offset_fits, within_pairs, read_pair, write_pair}
 use Rattle.mc_run.proofs.WrittenEntries.{made_first}
 use Rattle.mc_run.proofs.WrittenEntries.{made_second, pair_low}

@@ -8,7 +8,7 @@ use Rattle.mc_run.specs.Sources.{entry}
 use Rattle.mc_run.specs.declared.step.Step.{Step}
 use Rattle.mc_run.specs.declared.step.Step.TheVariants.{Meas}
 use Rattle.mc_run.proofs.Pairs.{first_not_before}
-use Rattle.mc_run.proofs.Passes.{Passed}
+use Rattle.mc_run.proofs.PassesInPlace.{Passed}
 use Rattle.mc_run.proofs.WrittenEntries.{within_pairs, read_one, write_one, pass_cut}
 use Rattle.mc_run.proofs.vector.folded.Goals as goal
 

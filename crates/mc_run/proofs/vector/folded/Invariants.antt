@@ -1,7 +1,7 @@
 use Rattle.std.proofs.Common.{◌≡◌, length, map}
 use Rattle.mc_run.specs.Exact.{exact}
 use Rattle.mc_run.specs.declared.step.Step.TheVariants.{Meas}
-use Rattle.mc_run.proofs.Passes.{Passed}
+use Rattle.mc_run.proofs.PassesInPlace.{Passed}
 use Rattle.mc_run.proofs.vector.folded.Given as goal
 
 abbrev pub invariant-pairs : goal.invariant-pairs

@@ -6,7 +6,7 @@ use Rattle.mc_run.specs.Settings.{digit}
 use Rattle.mc_run.specs.Sources.{entry}
 use Rattle.mc_run.specs.declared.step.Step.TheVariants.{Ent}
 use Rattle.mc_run.proofs.Turns.{obeys}
-use Rattle.mc_run.proofs.Passes.{Passed, pass_none}
+use Rattle.mc_run.proofs.PassesInPlace.{Passed, pass_none}
 use Rattle.mc_run.proofs.WrittenEntries.{read_one, write_one, signed_there, unsigned_there}
 use Rattle.mc_run.proofs.vector.signed.Goals.{then-digit, else-digit}
 use Rattle.mc_run.proofs.vector.signed.Goals as goal

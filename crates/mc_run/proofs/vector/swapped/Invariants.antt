@@ -2,7 +2,7 @@ use Rattle.std.proofs.Common.{◌≡◌, true, length, map}
 use Rattle.mc_run.specs.Exact.{exact}
 use Rattle.mc_run.specs.declared.step.Step.TheVariants.{X}
 use Rattle.mc_run.proofs.Pairs.{pair_of}
-use Rattle.mc_run.proofs.Passes.{Passed}
+use Rattle.mc_run.proofs.PassesInPlace.{Passed}
 use Rattle.mc_run.proofs.vector.swapped.Given as goal
 
 abbrev pub invariant-pairs : goal.invariant-pairs

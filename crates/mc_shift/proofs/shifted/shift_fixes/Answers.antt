@@ -1,7 +1,7 @@
 use Rattle.std.proofs.Common.{sym, ◌∙◌}
 use Rattle.std.proofs.lemmas.List.{map-append}
 use Rattle.mc_standard.specs.Plain.{plain_fix}
-use Rattle.mc_shift.proofs.Places.{walked_split, walked_next, fix_here}
+use Rattle.mc_shift.proofs.StandsBefore.{walked_split, walked_next, fix_here}
 use Rattle.mc_shift.proofs.Halfway.{fix_step}
 use Rattle.mc_shift.proofs.shifted.shift_fixes.Goals as goal
 

@@ -2,7 +2,7 @@ use Rattle.std.proofs.Common.{◌+◌, ◌<◌, sym, ◌∙◌, length, length-s
 use Rattle.std.proofs.lemmas.List.{map-append}
 use Rattle.mc_standard.specs.Plain.{plain_measure}
 use Rattle.mc_shift.proofs.PutIn.{signals_set}
-use Rattle.mc_shift.proofs.Places.{walked_split, walked_next, measured_here}
+use Rattle.mc_shift.proofs.StandsBefore.{walked_split, walked_next, measured_here}
 use Rattle.mc_shift.proofs.Halfway.{halfway_start, halfway_step}
 use Rattle.mc_shift.proofs.shifted.shift_measures.Goals as goal
 

@@ -1,6 +1,6 @@
 use Rattle.std.proofs.Common.{◌∙◌, refl, sym}
 use Rattle.mc_lex.proofs.Further.{further-same, further-token, further-further}
-use Rattle.mc_text.proofs.Going.{first-cons}
+use Rattle.mc_text.proofs.ReadingGoesOn.{first-cons}
 use Rattle.mc_text.proofs.Heading.{header_goes}
 use Rattle.mc_text.proofs.header.read_header.Goals as goal
 

@@ -1,7 +1,7 @@
 use Rattle.std.proofs.Common.{ap, ◌∙◌}
 use Rattle.mc_lex.specs.Left.{Left}
 use Rattle.mc_lex.proofs.Further.{further-token}
-use Rattle.mc_text.proofs.Going.{front-cons, none_first, goes_on, line_clean}
+use Rattle.mc_text.proofs.ReadingGoesOn.{front-cons, none_first, goes_on, line_clean}
 use Rattle.mc_text.proofs.line.read_line.Goals as goal
 
 pub returns-in-Err-clause-further : goal.returns-in-Err-clause-further

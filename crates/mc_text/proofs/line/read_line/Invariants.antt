@@ -2,7 +2,7 @@ use Rattle.std.proofs.Common.{◌≡◌, [], length}
 use Rattle.mc_lex.specs.Left.{IsFurther}
 use Rattle.mc_text.specs.Points.{last_head}
 use Rattle.mc_text.specs.Judged.{Lines}
-use Rattle.mc_text.proofs.Going.{Going}
+use Rattle.mc_text.proofs.ReadingGoesOn.{Going}
 use Rattle.mc_text.proofs.line.read_line.Given as goal
 
 abbrev pub invariant-tokens : goal.invariant-tokens

@@ -3,7 +3,7 @@ use Rattle.mc_model.specs.Derivation.{no_use}
 use Rattle.mc_model.proofs.FittingCommands.{derived_valid}
 use Rattle.mc_standard.specs.Uses.{plain_use}
 use Rattle.mc_derivations.specs.Checks.{IsTrace}
-use Rattle.mc_trace.proofs.Rows.{next_row, broken_row, ends_there, ends_elsewhere}
+use Rattle.mc_trace.proofs.RowRules.{next_row, broken_row, ends_there, ends_elsewhere}
 use Rattle.mc_trace.proofs.Verdicts.{judged_yes, judged_no}
 use Rattle.mc_trace.proofs.check.check_trace.Given.{Over}
 use Rattle.mc_trace.proofs.check.check_trace.Goals as goal

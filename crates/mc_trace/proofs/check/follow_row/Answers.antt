@@ -2,7 +2,7 @@ use Rattle.std.proofs.Common.{arith}
 use Rattle.std.proofs.lemmas.List.{length-map}
 use Rattle.mc_standard.specs.Uses.{plain_use}
 use Rattle.mc_derivations.proofs.LedSteps.{breaks_three, led_step}
-use Rattle.mc_trace.proofs.Rows.{breaks_long}
+use Rattle.mc_trace.proofs.RowRules.{breaks_long}
 use Rattle.mc_trace.proofs.check.follow_row.Goals as goal
 
 pub returns-then-exchanges : goal.returns-then-exchanges

@@ -1,6 +1,6 @@
 use Rattle.std.proofs.Common.{arith}
 use Rattle.std.proofs.lemmas.Int.{ints}
-use Rattle.mc_cyclo.proofs.Places.{at-height}
+use Rattle.mc_cyclo.proofs.CoordinatesByPlace.{at-height}
 use Rattle.mc_cyclo.proofs.cyclo.Cyclo.coordinate.Goals as goal
 
 pub returns-clause-within : goal.returns-clause-within

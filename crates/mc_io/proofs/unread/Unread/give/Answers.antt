@@ -1,5 +1,5 @@
 use Rattle.std.proofs.Common.{◌+◌, ◌≤◌, length, arith, sym, ◌∙◌}
-use Rattle.mc_io.proofs.Parts.{drop-split}
+use Rattle.mc_io.proofs.PartsOfBytes.{drop-split}
 use Rattle.mc_io.proofs.unread.Unread.give.Goals as goal
 
 pub returns-clause-bytes : goal.returns-clause-bytes
