@@ -12,3 +12,4 @@ pub mod RunningPass
 pub mod StandardPatterns
 pub mod StandardTyped
 pub mod SumBits
+pub mod CommandsAtPlace

@@ -4,7 +4,7 @@ use Rattle.std.proofs.Common.{[], ◌∷◌, ◌++◌, map, length, take, drop, 
 use Rattle.std.proofs.Common.{ap₂, subst, arith, append_assoc}
 use Rattle.std.specs.Prelude.{nat_lt}
 use Rattle.std.proofs.lemmas.Bool.{cases_lt, lt-ltb, le-ltb}
-use Rattle.std.proofs.lemmas.List.{get_or-map, take-take, take-append-drop}
+use Rattle.std.proofs.lemmas.List.{get_or-map, take-take, take-append-drop, map-append}
 use Rattle.std.proofs.Math.Seq.{take-append-add}
 use mathlib.Core.Logic.{inl, inr}
 use Rattle.mc_model.specs.Pattern.{Command}
@@ -16,10 +16,9 @@ use Rattle.mc_pattern.specs.declared.command.Command.{Command as Coded}
 use Rattle.mc_standard.specs.Places.{part_at, IsEarly, SettlesAt, IsTidyAt, FollowsAt, StaysSettled}
 use Rattle.mc_standard.specs.Places.{Settles}
 use Rattle.mc_rules.specs.Settled.{IsTidy, Follows, IsSettled, InOrder}
+use Rattle.mc_rules.specs.Nearer.{PartsInOrder}
 use Rattle.mc_standard.proofs.Edits.{two_at}
-use Rattle.mc_rules.proofs.FirstOutOfOrder.{map-append}
 use Rattle.mc_standard.proofs.ImprovedAtPlace.{part_here, part_next}
-use Rattle.mc_rules.proofs.PartsInOrder.{parts_in_order}
 
 -- ---- reads of a list through a map
 
@@ -77,7 +76,7 @@ order_front cs j k h z =
     let front : List Command = take j (take k cs) in
     let rest : List Command = drop j (take k cs) in
     let whole : map part (take k cs) ≡ map part front ++ map part rest =
-    ap (map part) (sym (take-append-drop j (take k cs))) ∙ map-append front rest in
+    ap (map part) (sym (take-append-drop j (take k cs))) ∙ map-append part front rest in
     let split = order-append [] (map part front) (map part rest) in
     let sum : out_of_order [] (map part front ++ map part rest) ≡ 0 =
     sym (ap (out_of_order []) whole) ∙ z in
@@ -117,9 +116,9 @@ stays_first [] h tidy = absurd (omega arith)
 stays_first (c ∷ cs) h tidy = λ inputs v order s.
     (tidy [] c cs refl refl (operands_differ inputs [] c (v.at [] c cs refl)), tt, tt)
 
-stays_next : (cs : List Command) (k : ℕ) → suc k < length cs → IsTidyAt (suc k) cs →
-    FollowsAt k cs → StaysSettled (suc k) (suc k + 1) cs
-stays_next cs k within tidy follows =
+stays_next : PartsInOrder → (cs : List Command) (k : ℕ) → suc k < length cs →
+    IsTidyAt (suc k) cs → FollowsAt k cs → StaysSettled (suc k) (suc k + 1) cs
+stays_next law cs k within tidy follows =
     let p = two_at cs k (omega arith) in
     let next : suc k ≡ length p.before + 1 = let e = p.at in omega arith in
     let last : suc k + 1 ≡ length p.before + 2 = omega arith in
@@ -134,8 +133,9 @@ stays_next cs k within tidy follows =
     let long : suc k ≡ length (p.before ++ (p.here ∷ [])) =
     let e = length-append p.before (p.here ∷ []) in omega arith in
     λ inputs v order s.
-    let apart = operands_differ inputs (p.before ++ (p.here ∷ [])) p.next (v.at _ p.next p.behind split) in
-    let rise = parts_in_order.rise p.before p.here p.next p.behind (subst InOrder p.is order) in
+    let apart = operands_differ inputs (p.before ++ (p.here ∷ [])) p.next
+    (v.at _ p.next p.behind split) in
+    let rise = law.rise p.before p.here p.next p.behind (subst InOrder p.is order) in
     subst IsSettled (sym whole)
     (settled_more p.before p.here p.next (subst IsSettled front s)
     (follows p.before p.here p.next p.behind p.is p.at rise)
@@ -145,12 +145,12 @@ stays_next cs k within tidy follows =
     length-append [] ys = omega arith
     length-append (x ∷ xs) ys = let h = length-append xs ys in omega arith
 
-pub stays_further : (cs : List Command) (k : ℕ) → k < length cs → IsTidyAt k cs →
+pub stays_further : PartsInOrder → (cs : List Command) (k : ℕ) → k < length cs → IsTidyAt k cs →
     (0 < k → FollowsAt (k - 1) cs) → StaysSettled k (k + 1) cs
-stays_further cs zero within tidy follows = stays_first cs within tidy
-stays_further cs (suc k) within tidy follows =
+stays_further law cs zero within tidy follows = stays_first cs within tidy
+stays_further law cs (suc k) within tidy follows =
     let e : suc k - 1 ≡ k = omega arith in
-    stays_next cs k within tidy
+    stays_next law cs k within tidy
     (subst (λ (n : ℕ). FollowsAt n cs) e (follows (omega arith)))
 
 -- a use on two commands

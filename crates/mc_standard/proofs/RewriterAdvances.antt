@@ -5,51 +5,41 @@ use Rattle.std.proofs.Common.{sym, ◌∙◌, ap, ap₂, subst, arith}
 use Rattle.std.proofs.lemmas.List.{take-take}
 use Rattle.std.proofs.Math.Seq.{take-append_seam, take-length}
 use mathlib.Core.Logic.{inl, inr}
-use Rattle.mc_model.specs.Ring.{ring}
 use Rattle.mc_model.specs.Pattern.{Command, Pattern}
 use Rattle.mc_model.specs.Valid.{IsValidPattern}
 use Rattle.mc_model.specs.StandardForm.{standard_form}
-use Rattle.mc_model.specs.Derivation.{Rule, Use, Step, rank, out_of_order}
-use Rattle.mc_model.proofs.AlikeLemmas.{alike_branches}
-use Rattle.mc_model.proofs.RingLemmas.{ring_laws}
+use Rattle.mc_model.specs.Derivation.{Rule, Use, Step, Derives, no_use, one_use}
+use Rattle.mc_model.specs.Derivation.{rank, out_of_order}
 use Rattle.mc_rules.specs.Improves.{Descends, Improvement}
 use Rattle.mc_rules.specs.Laws.{with_commands}
 use Rattle.mc_standard.specs.Places.{IsEarly, PassesAt, StaysSettled, Settles}
 use Rattle.mc_rules.specs.Settled.{InOrder, IsSettled}
-use Rattle.mc_standard.specs.Stepping.{IsDone}
-use Rattle.mc_standard.specs.Stepping.{Advances, IsStandard}
-use Rattle.mc_rules.proofs.StandardReached.{standard_stays}
-use Rattle.mc_rules.proofs.DerivationsKeep.{step_qubits, valid_again}
-use Rattle.mc_rules.proofs.FirstOutOfOrder.{step_alike}
-use Rattle.mc_rules.proofs.SettledForm.{settled_is_standard}
-use Rattle.mc_rules.proofs.UsesLeft.{improvement_falls}
+use Rattle.mc_standard.specs.Stepping.{IsDone, Advances, IsStandard, RewritingLaws}
 use Rattle.mc_standard.proofs.OrderedFronts.{order_front, settled_front}
 
 -- an improvement of the commands advances the pattern
-advances : (p : Pattern) (u : Use) (ds : List Command) → IsValidPattern p →
+advances : RewritingLaws → (p : Pattern) (u : Use) (ds : List Command) → IsValidPattern p →
     Improvement p.inputs u.rule u.place p.commands ds → Advances u p (with_commands p ds)
 unfolding standard_form
-advances p u ds v w = record {
-  names = refl;
-  inputs = refl;
-  outputs = refl;
-  step = w.step;
-  valid = valid_again p ds v (step_qubits p.inputs u.rule u.place p.commands ds w.step)
-      w.step.to_valid;
-  lower = w.lower;
-  falls = improvement_falls p.inputs u.rule u.place p.commands ds w;
-  same = ap (with_commands p) (sym w.same);
-  alike = λ half positive o.
-      let laws = ring_laws half positive in
-      alike_branches (ring half) laws p.names p.names p.inputs p.outputs o p.commands ds
-      (step_alike (ring half) laws o p.inputs u.rule u.place p.commands ds w.step);
-}
+advances laws p u ds v w =
+    let one : Derives p.inputs (u ∷ []) p.commands ds = one_use w.step no_use in
+    record {
+      names = refl;
+      inputs = refl;
+      outputs = refl;
+      step = w.step;
+      valid = (laws.keeps 1 (omega arith) p v (u ∷ []) ds one).valid;
+      lower = w.lower;
+      falls = laws.falls p.inputs u.rule u.place p.commands ds w;
+      same = ap (with_commands p) (sym w.same);
+      alike = λ half positive o. (laws.keeps half positive p v (u ∷ []) ds one).alike o;
+    }
 
 -- a pattern that a use improves is not its own standard form
-not_standard : (p : Pattern) (u : Use) (ds : List Command) → IsValidPattern p →
+not_standard : RewritingLaws → (p : Pattern) (u : Use) (ds : List Command) → IsValidPattern p →
     Improvement p.inputs u.rule u.place p.commands ds → IsStandard p → ⊥
-not_standard p u ds v w e =
-    standard_stays p.inputs p.commands v.commands e
+not_standard laws p u ds v w e =
+    (laws.leads p.inputs p.commands v.commands).0.not_both e
     (record { rule = u.rule; place = u.place; next = ds; improved = w })
 
 -- ---- what stands before a use stays
@@ -96,11 +86,12 @@ pub record IsNext (u : Use) (p : Pattern) (ds : List Command) (ordered settled :
   pub advanced : Advances u p (with_commands p ds)
   pub done : IsDone ds ordered settled
 
-pub next_by_passing : (p : Pattern) (ds : List Command) (rule : Rule) (k ordered settled m : ℕ) →
+pub next_by_passing : RewritingLaws → (p : Pattern) (ds : List Command) (rule : Rule)
+    (k ordered settled m : ℕ) →
     IsValidPattern p → IsDone p.commands ordered settled → InOrder (take k p.commands) →
     IsEarly p.commands k → PassesAt rule k p.commands ds → m ≡ min settled (k - 1) →
     IsNext (record { place = k; rule = rule }) p ds (k - 1) m
-next_by_passing p ds rule k ordered settled m v done order early passes e =
+next_by_passing laws p ds rule k ordered settled m v done order early passes e =
     let w : Improvement p.inputs rule k p.commands ds =
     passes p.inputs v.commands order early in
     let front : SameFront p.commands ds (k - 1) =
@@ -111,8 +102,8 @@ next_by_passing p ds rule k ordered settled m v done order early passes e =
     sym (take-take m (k - 1) ds below) ∙ ap (take m) front.same
     ∙ take-take m (k - 1) p.commands below in
     record {
-      not_last = not_standard p (record { place = k; rule = rule }) ds v w;
-      advanced = advances p (record { place = k; rule = rule }) ds v w;
+      not_last = not_standard laws p (record { place = k; rule = rule }) ds v w;
+      advanced = advances laws p (record { place = k; rule = rule }) ds v w;
       done = record {
         within = front.within;
         settled_within = let h = front.within in omega arith;
@@ -123,19 +114,20 @@ next_by_passing p ds rule k ordered settled m v done order early passes e =
       };
     }
 
-pub next_by_settling : (p : Pattern) (ds : List Command) (u : Use) (ordered settled early n : ℕ) →
+pub next_by_settling : RewritingLaws → (p : Pattern) (ds : List Command) (u : Use)
+    (ordered settled early n : ℕ) →
     IsValidPattern p → IsDone p.commands ordered settled → InOrder (take early p.commands) →
     early ≡ length p.commands → Settles settled u p.commands ds → n ≡ length ds →
     IsNext u p ds n (u.place - 1)
-next_by_settling p ds u ordered settled early n v done order all settles e =
+next_by_settling laws p ds u ordered settled early n v done order all settles e =
     let z : InOrder p.commands = subst InOrder (whole p.commands early all) order in
     let w : Improvement p.inputs u.rule u.place p.commands ds =
     settles.improves p.inputs v.commands z in
     let front : SameFront p.commands ds (u.place - 1) =
     same_front p.inputs u.rule u.place p.commands ds w.step in
     record {
-      not_last = not_standard p u ds v w;
-      advanced = advances p u ds v w;
+      not_last = not_standard laws p u ds v w;
+      advanced = advances laws p u ds v w;
       done = record {
         within = omega arith;
         settled_within = front.within;
@@ -150,16 +142,16 @@ pub record IsLast (p : Pattern) (m n : ℕ) : Type 0 where
   pub standard : IsStandard p
   pub done : IsDone p.commands m n
 
-pub last_use : (p : Pattern) (ordered settled early m n l : ℕ) → IsValidPattern p →
+pub last_use : RewritingLaws → (p : Pattern) (ordered settled early m n l : ℕ) → IsValidPattern p →
     IsDone p.commands ordered settled → InOrder (take early p.commands) →
     early ≡ length p.commands → StaysSettled settled l p.commands → l ≡ length p.commands →
     m ≡ length p.commands → n ≡ length p.commands → IsLast p m n
-last_use p ordered settled early m n l v done order all stays e f g =
+last_use laws p ordered settled early m n l v done order all stays e f g =
     let z : InOrder p.commands = subst InOrder (whole p.commands early all) order in
     let s : IsSettled p.commands =
     subst IsSettled (whole p.commands l e) (stays p.inputs v.commands z done.is_settled) in
     record {
-      standard = settled_is_standard p.inputs p.commands v.commands s;
+      standard = (laws.settled p.inputs p.commands v.commands).0 s;
       done = record {
         within = omega arith;
         settled_within = omega arith;

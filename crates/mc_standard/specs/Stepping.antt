@@ -8,6 +8,8 @@ use Rattle.mc_model.specs.Valid.{IsValidPattern}
 use Rattle.mc_model.specs.StandardForm.{standard_commands, standard_form}
 use Rattle.mc_model.specs.Derivation.{Use, Step, rank, IsLower}
 use Rattle.mc_pattern.specs.Typed.{AllTyped}
+use Rattle.mc_rules.specs.Laws.{DerivationsKeepPatterns, StepsLeadToStandard, SettledIsStandard}
+use Rattle.mc_rules.specs.Nearer.{ImprovementsEnd}
 use Rattle.mc_rules.specs.Settled.{InOrder, IsSettled}
 use Rattle.mc_rules.specs.UsesLeft.{uses_left}
 
@@ -40,3 +42,10 @@ pub record IsRewriting (half : ℕ) (p : Pattern) (ordered settled : ℕ) : Type
 -- the pattern is its own standard form
 abbrev pub IsStandard : Pattern → Type 0
 IsStandard p = standard_commands p.inputs p.commands ≡ p.commands
+
+-- the laws of rules that each step of the rewriter rests on
+pub record RewritingLaws : Type 0 where
+  pub keeps : DerivationsKeepPatterns
+  pub falls : ImprovementsEnd
+  pub leads : StepsLeadToStandard
+  pub settled : SettledIsStandard

@@ -7,8 +7,8 @@ use mc_model::Memory;
 use mc_pattern::Command;
 use std::alloc::Global;
 
-/// The same command.
-fn copy<const H: usize>(command: &Command<H>) -> Result<Command<H>, Memory>
+/// The same command. `Memory` where there is no room for it.
+pub fn copy_command<const H: usize>(command: &Command<H>) -> Result<Command<H>, Memory>
     ensures { IfOk result (λ copy. copy ≡ command.now) }
 {
     match command {
@@ -35,8 +35,8 @@ fn copy<const H: usize>(command: &Command<H>) -> Result<Command<H>, Memory>
     }
 }
 
-/// The same commands.
-pub(crate) fn copy_all<const H: usize>(
+/// The same commands, in their order. `Memory` where there is no room for them.
+pub fn copy_commands<const H: usize>(
     alloc: Global,
     commands: &[Command<H>],
 ) -> Result<Vec<Command<H>>, Memory>
@@ -44,7 +44,7 @@ pub(crate) fn copy_all<const H: usize>(
 {
     let mut copies = Vec::new(alloc);
     'commands: for command in commands {
-        append(&mut copies, copy(command)?)?;
+        append(&mut copies, copy_command(command)?)?;
     }
     Ok(copies)
 }

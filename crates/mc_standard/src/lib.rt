@@ -24,6 +24,7 @@ mod sum;
 mod tests;
 
 pub use change::Change;
+pub use copy::{copy_command, copy_commands};
 pub use rewriter::Rewriter;
 pub use rule::{Rule, Use};
 pub use standard::{Fix, Measure, Standard};

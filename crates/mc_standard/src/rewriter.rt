@@ -5,17 +5,20 @@ ghost use Rattle.mc_model.specs.Derivation.{rank};
 ghost use Rattle.mc_model.specs.Valid.{IsValidPattern};
 ghost use Rattle.mc_pattern.specs.Commands.{plain_command};
 ghost use Rattle.mc_pattern.specs.Typed.{AllTyped};
-ghost use Rattle.mc_standard.specs.Stepping.{Advances, IsStandard};
+ghost use Rattle.mc_standard.specs.Stepping.{Advances, IsStandard, RewritingLaws};
 ghost use Rattle.mc_standard.specs.Uses.{plain_use};
 ghost use Rattle.mc_rules.specs.UsesLeft.{uses_left};
 
-use crate::copy::copy_all;
+use crate::copy::copy_commands;
 use crate::listing::copied;
 use crate::rule::Use;
 use crate::search::{first_early, pass_at, settle_from};
 use mc_model::Memory;
 use mc_names::Names;
 use mc_pattern::{Command, Pattern};
+use mc_rules::{
+    derivations_keep_patterns, rules_improve, settled_is_standard, steps_lead_to_standard,
+};
 use std::alloc::Global;
 use std::marker::Model;
 
@@ -55,7 +58,7 @@ impl<const H: usize> Rewriter<H> {
         ensures { IfOk result (λ rewriter. rewriter ≡ p.now) }
     {
         let names = p.names().copy()?;
-        let commands = copy_all(alloc, p.commands())?;
+        let commands = copy_commands(alloc, p.commands())?;
         let outs = copied(alloc, p.outputs())?;
         Ok(Rewriter {
             names,
@@ -108,6 +111,7 @@ impl<const H: usize> Rewriter<H> {
         ensures stays { IfOk result (λ used. IfNone used (self.new ≡ self.old)) }
         ensures err { OnErr result (self.new ≡ self.old) }
     {
+        rewriting_laws();
         let early = first_early(self.commands.as_slice(), self.ordered);
         if early < self.commands.len() {
             let rule = pass_at(&mut self.commands, early)?;
@@ -132,4 +136,14 @@ impl<const H: usize> Rewriter<H> {
             }
         }
     }
+}
+
+/// What each step rests on. Does nothing.
+fn rewriting_laws()
+    ensures { RewritingLaws }
+{
+    derivations_keep_patterns();
+    rules_improve();
+    steps_lead_to_standard();
+    settled_is_standard();
 }

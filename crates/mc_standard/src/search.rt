@@ -14,6 +14,7 @@ use crate::pick::{pass, settle_one, settle_two};
 use crate::rule::{Rule, Use};
 use mc_model::Memory;
 use mc_pattern::Command;
+use mc_rules::{parts_in_order, rules_improve};
 
 /// The part of the standard form that a command belongs to: preparations, entanglings, measurements, corrections.
 fn part_of<const H: usize>(command: &Command<H>) -> u8
@@ -67,6 +68,7 @@ pub(crate) fn pass_at<const H: usize>(
         (map plain_command commands.old.items) (map plain_command commands.new.items)) }
     ensures err { OnErr result (commands.new.items ≡ commands.old.items) }
 {
+    rules_improve();
     let Rewrite { rule, change } = pass(&commands[k - 1], &commands[k])?;
     change.apply(commands, k - 1)?;
     Ok(rule)
@@ -86,6 +88,7 @@ fn settle_one_at<const H: usize>(
         (map plain_command commands.old.items) (map plain_command commands.new.items))) }
     ensures err { OnErr result (commands.new.items ≡ commands.old.items) }
 {
+    rules_improve();
     let Some(Rewrite { rule, change }) = settle_one(&commands[k]) else {
         return Ok(None);
     };
@@ -107,6 +110,7 @@ fn settle_two_at<const H: usize>(
         (map plain_command commands.old.items) (map plain_command commands.new.items))) }
     ensures err { OnErr result (commands.new.items ≡ commands.old.items) }
 {
+    rules_improve();
     let Some(Rewrite { rule, change }) = settle_two(&commands[k], &commands[k + 1])? else {
         return Ok(None);
     };
@@ -128,6 +132,7 @@ fn settle_at<const H: usize>(
         (map plain_command commands.old.items) (map plain_command commands.new.items))) }
     ensures err { OnErr result (commands.new.items ≡ commands.old.items) }
 {
+    parts_in_order();
     if let Some(rule) = settle_one_at(commands, k)? {
         let place = k as u64 + 1;
         return Ok(Some(Use { place, rule }));

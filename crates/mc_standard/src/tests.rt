@@ -155,6 +155,19 @@ fn is_two_j_standard(commands: &[Command<4>]) -> bool {
 }
 
 #[test]
+fn copies_commands(rt: HostRuntime) -> Result<(), Fail> {
+    let alloc = rt.alloc();
+    let mut builder = with_inputs(&rt, alloc, &["a", "b"])?;
+    assert_eq!(rt; builder.push(Command::Ent(0, 1)), Ok(()));
+    let pattern = finished(builder, &[0, 1])?;
+    match copy_commands(alloc, pattern.commands())?.as_slice() {
+        [edge] => assert!(rt; is_edge(edge, 0, 1) && is_edge(&copy_command(edge)?, 0, 1)),
+        _ => assert!(rt; false),
+    }
+    Ok(())
+}
+
+#[test]
 fn standardises_two_j(rt: HostRuntime) -> Result<(), Fail> {
     let alloc = rt.alloc();
     let pattern = two_j(&rt, alloc)?;

@@ -4,15 +4,15 @@ use Rattle.std.proofs.Common.{get_or, refl, sym, ◌∙◌, ap, subst, arith, ap
 use Rattle.std.specs.Prelude.{Option, Some, None, MatchOption}
 use Rattle.mc_model.specs.Pattern.{Command}
 use Rattle.mc_model.specs.Valid.{IsValid}
-use Rattle.mc_model.proofs.FittingCommands.{operands_differ, local_fit}
+use Rattle.mc_model.proofs.FittingCommands.{operands_differ}
 use Rattle.mc_rules.specs.Settled.{IsTidy, FirstFollows, IsSettled}
-use Rattle.mc_rules.proofs.FirstOutOfOrder.{may_pass}
+use Rattle.mc_rules.specs.Passing.{EarlierPasses}
 use Rattle.mc_standard.specs.declared.rule.Rule.{Rule as Coded}
 use Rattle.mc_standard.specs.Uses.{plain_rule}
 use Rattle.mc_trace.specs.Choosing.{HelpsAt, IsDoneAt, IsSomewhereValid}
 use Rattle.mc_trace.specs.Choosing.{rule_for_one, rule_for_two}
 use Rattle.mc_trace.proofs.ChosenRules.{one_done, one_helps, two_follow, two_help}
-use Rattle.mc_trace.proofs.CommandsAtPlace.{IsOne, IsTwo, one_here, two_here, here_is, next_is}
+use Rattle.mc_standard.proofs.CommandsAtPlace.{IsOne, IsTwo, one_here, two_here, here_is, next_is}
 
 pub one_at_place : (cs : List Command) (i : ℕ) (c : Command) (rule : Coded) → i < length cs →
     c ≡ get_or cs i c → rule_for_one c ≡ Some rule →
@@ -59,10 +59,10 @@ abbrev pub FoundAt : ℕ → List Command → Option Coded → Type 0
 FoundAt i cs found = MatchOption found (IsDoneAt i cs)
     (λ rule. HelpsAt (record { place = i + 1; rule = plain_rule rule }) cs)
 
-two_found : (cs : List Command) (i : ℕ) (c d : Command) (found : Option Coded) →
+two_found : EarlierPasses → (cs : List Command) (i : ℕ) (c d : Command) (found : Option Coded) →
     IsSomewhereValid cs → i + 2 ≤ length cs → c ≡ get_or cs i c → d ≡ get_or cs (i + 1) d →
     rule_for_one c ≡ None → rule_for_two c d ≡ found → FoundAt i cs found
-two_found cs i c d None v within first second e f = λ before x behind is at. (
+two_found passes cs i c d None v within first second e f = λ before x behind is at. (
   tidy_there v.inputs cs before x behind i c v.valid is at first e,
   follows_there before x behind is at,
 )
@@ -76,26 +76,24 @@ two_found cs i c d None v within first second e f = λ before x behind is at. (
         two_follow x y
         (subst (λ (z : Command). rule_for_two z y ≡ None) here
         (subst (λ (z : Command). rule_for_two c z ≡ None) next f))
-two_found cs i c d (Some rule) v within first second e f =
+two_found passes cs i c d (Some rule) v within first second e f =
     let p : IsTwo cs i c d = two_here cs i c d within first second in
-    let valid : IsValid v.inputs (p.before ++ ((c ∷ d ∷ []) ++ p.behind)) =
+    let valid : IsValid v.inputs (p.before ++ (c ∷ d ∷ p.behind)) =
     subst (IsValid v.inputs) p.is v.valid in
     record {
       before = p.before;
       old = c ∷ d ∷ [];
       behind = p.behind;
-      helps = two_help c d rule f (λ less.
-          may_pass v.inputs p.before c d
-          (local_fit v.inputs p.before (c ∷ d ∷ []) p.behind valid) less);
+      helps = two_help c d rule f (passes v.inputs p.before c d p.behind valid);
       at_place = let at = p.at in omega arith;
       from_list = p.is;
     }
 
-pub two_at_place : (cs : List Command) (i : ℕ) (c d : Command) (found : Option Coded) →
-    IsSomewhereValid cs → i + 2 ≤ length cs → c ≡ get_or cs i c → d ≡ get_or cs (i + 1) d →
+pub two_at_place : EarlierPasses → (cs : List Command) (i : ℕ) (c d : Command)
+    (found : Option Coded) → IsSomewhereValid cs → i + 2 ≤ length cs → c ≡ get_or cs i c → d ≡ get_or cs (i + 1) d →
     rule_for_one c ≡ None → found ≡ rule_for_two c d → FoundAt i cs found
-two_at_place cs i c d found v within first second e f =
-    two_found cs i c d found v within first second e (sym f)
+two_at_place passes cs i c d found v within first second e f =
+    two_found passes cs i c d found v within first second e (sym f)
 
 -- nothing is left to do at any place
 settled_from : (cs before rest : List Command) → cs ≡ before ++ rest →

@@ -30,6 +30,7 @@ use Rattle.mc_trace.proofs.Leading.{reach_two}
 use Rattle.mc_trace.proofs.RowRules.{prep_is}
 use Rattle.mc_trace.proofs.ValidOrNot.{valid_or_not}
 use Rattle.mc_trace.proofs.Verdicts.{judged_yes, judged_no}
+use Rattle.mc_rules.specs.Passing.{RulesServe}
 
 -- the rule applies to the commands, or it does not
 abbrev AppliesOrNot : Rule → List Command → Type 0
@@ -112,23 +113,23 @@ StepsOrBreaks inputs u cs =
     ((ds : List Command) × Step inputs u.rule u.place cs ds)
     ⊎ ((rule : ℕ) × BreaksRow inputs u cs rule)
 
-led_case : (inputs : ℕ) (u : Use) (cs ds : List Command) → Leads u cs ds →
+led_case : RulesServe → (inputs : ℕ) (u : Use) (cs ds : List Command) → Leads u cs ds →
     StepsOrBreaks inputs u cs
-led_case inputs u cs ds l = elim (valid_or_not inputs cs) [
+led_case serves inputs u cs ds l = elim (valid_or_not inputs cs) [
   | inl v ↦
       elim (preps_there u.place cs l.before (l.old ++ l.behind) l.from_list l.at_place) [
         | inl p ↦ inr (3, breaks_three inputs u cs ds l p v)
-        | inr n ↦ inl (ds, led_step inputs u cs ds l n v)
+        | inr n ↦ inl (ds, led_step serves inputs u cs ds l n v)
       ]
   | inr n ↦ inr (3, inr (refl, record { next = ds; leads = l; astray = inl n }))
 ]
 
-there_case : (inputs : ℕ) (u : Use) (cs before old behind : List Command) →
+there_case : RulesServe → (inputs : ℕ) (u : Use) (cs before old behind : List Command) →
     cs ≡ before ++ (old ++ behind) → u.place ≡ suc (length before) →
     length old ≡ rule_reach u.rule → (LacksCommands u cs → ⊥) → AppliesOrNot u.rule old →
     StepsOrBreaks inputs u cs
-there_case inputs u cs before old behind is at long exist (inl a) =
-    led_case inputs u cs (before ++ (a.0 ++ behind)) (record {
+there_case serves inputs u cs before old behind is at long exist (inl a) =
+    led_case serves inputs u cs (before ++ (a.0 ++ behind)) (record {
       before = before;
       old = old;
       new = a.0;
@@ -138,7 +139,7 @@ there_case inputs u cs before old behind is at long exist (inl a) =
       from_list = is;
       to_list = refl;
     })
-there_case inputs u cs before old behind is at long exist (inr none) =
+there_case serves inputs u cs before old behind is at long exist (inr none) =
     inr (
       2,
       inl (inr (
@@ -149,8 +150,8 @@ there_case inputs u cs before old behind is at long exist (inr none) =
       )),
     )
 
-row_case : (inputs : ℕ) (u : Use) (cs : List Command) → StepsOrBreaks inputs u cs
-row_case inputs u cs = elim (cases_eq u.place 0) [
+row_case : RulesServe → (inputs : ℕ) (u : Use) (cs : List Command) → StepsOrBreaks inputs u cs
+row_case serves inputs u cs = elim (cases_eq u.place 0) [
   | inl z ↦ inr (1, inl (inl (refl, inl z)))
   | inr some ↦ elim (cases_lt (length cs + 1) (u.place + rule_reach u.rule)) [
     | inl past ↦ inr (1, inl (inl (refl, inr past)))
@@ -158,13 +159,13 @@ row_case inputs u cs = elim (cases_eq u.place 0) [
       | inl one ↦
           let p = one_at cs (u.place - 1) (omega arith) in
           let at = p.at in
-          there_case inputs u cs p.before (p.here ∷ []) p.behind p.is (omega arith) (sym one)
+          there_case serves inputs u cs p.before (p.here ∷ []) p.behind p.is (omega arith) (sym one)
           (exists some within) (applies_one u.rule p.here one)
       | inr other ↦
           let two = reach_two u.rule other in
           let p = two_at cs (u.place - 1) (omega arith) in
           let at = p.at in
-          there_case inputs u cs p.before (p.here ∷ p.next ∷ []) p.behind p.is (omega arith)
+          there_case serves inputs u cs p.before (p.here ∷ p.next ∷ []) p.behind p.is (omega arith)
           (sym two) (exists some within) (applies_two u.rule p.here p.next)
     ]
   ]
@@ -204,15 +205,16 @@ judged_end inputs uses cs here few d = elim (all_equal here (standard_commands i
   )
 ]
 
-judged_from : (inputs : ℕ) (before rest : List Use) (cs here : List Command) → length cs ≤ 64 →
+judged_from : RulesServe → (inputs : ℕ) (before rest : List Use) (cs here : List Command) →
+    length cs ≤ 64 →
     Derives inputs before cs here → IsJudged inputs (before ++ rest) cs
-judged_from inputs before [] cs here few d =
+judged_from serves inputs before [] cs here few d =
     subst (λ (us : List Use). IsJudged inputs us cs) (sym (append-nil before))
     (judged_end inputs before cs here few d)
-judged_from inputs before (u ∷ rest) cs here few d = elim (row_case inputs u here) [
+judged_from serves inputs before (u ∷ rest) cs here few d = elim (row_case serves inputs u here) [
   | inl s ↦
       subst (λ (us : List Use). IsJudged inputs us cs) (append_assoc before (u ∷ []) rest)
-      (judged_from inputs (before ++ (u ∷ [])) rest cs s.0 few
+      (judged_from serves inputs (before ++ (u ∷ [])) rest cs s.0 few
       (derives_on inputs before (u ∷ []) cs here s.0 d (one_use s.1 no_use)))
   | inr b ↦ (
     Some (breach (suc (length before)) b.0),
@@ -229,6 +231,6 @@ judged_from inputs before (u ∷ rest) cs here few d = elim (row_case inputs u h
   )
 ]
 
-pub every_judged : (inputs : ℕ) (uses : List Use) (cs : List Command) → length cs ≤ 64 →
+pub every_judged : RulesServe → (inputs : ℕ) (uses : List Use) (cs : List Command) → length cs ≤ 64 →
     IsJudged inputs uses cs
-every_judged inputs uses cs few = judged_from inputs [] uses cs cs few no_use
+every_judged serves inputs uses cs few = judged_from serves inputs [] uses cs cs few no_use

@@ -10,8 +10,8 @@ use Rattle.mc_standard.specs.declared.change.Change.{Change}
 use Rattle.mc_standard.specs.Changes.{reach, changed}
 use Rattle.mc_trace.specs.Changes.{LeadsBy}
 use Rattle.mc_derivations.specs.Following.{rule_reach, Leads, LeadsNowhere, LacksCommands, Misfits}
-use Rattle.mc_trace.proofs.CommandsAtPlace.{IsOne, IsTwo, two_here, one_here, here_is, next_is}
-use Rattle.mc_trace.proofs.CommandsAtPlace.{changed_two, changed_one, new_list}
+use Rattle.mc_standard.proofs.CommandsAtPlace.{IsOne, IsTwo, two_here, one_here, here_is, next_is}
+use Rattle.mc_standard.proofs.CommandsAtPlace.{changed_two, changed_one, new_list}
 use Rattle.mc_derivations.proofs.RuleReach.{rewritten_reach}
 
 back : (i : ℕ) → i + 1 - 1 ≡ i

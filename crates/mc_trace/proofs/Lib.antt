@@ -1,6 +1,5 @@
 pub mod ChosenRules
 pub mod ChosenUses
-pub mod CommandsAtPlace
 pub mod EqualLists
 pub mod EveryTraceJudged
 pub mod FittingLines

@@ -12,7 +12,8 @@ use Rattle.mc_model.proofs.FittingCommands.{valid_from_fit}
 use Rattle.mc_pattern.specs.Commands.{plain_command}
 use Rattle.mc_pattern.specs.declared.command.Command.{Command as Coded}
 use Rattle.mc_rules.specs.Settled.{IsSettled}
-use Rattle.mc_rules.proofs.SettledForm.{settled_is_standard}
+use Rattle.mc_rules.specs.Laws.{SettledIsStandard}
+use Rattle.mc_rules.specs.Passing.{RulesServe}
 use Rattle.mc_trace.specs.Choosing.{HelpsAt, IsSomewhereValid}
 use Rattle.mc_derivations.specs.Following.{Leads}
 use Rattle.mc_derivations.specs.Derivations.{LeadsToStandard}
@@ -62,17 +63,18 @@ effort_falls old mid u cs ds es s h l =
     led_effort (room cs) u ds es l (helps_useful u ds es h l) (omega arith)
 
 -- the use, with more commands behind the list
-then_led : (old mid : List Use) (u : Use) (cs ds es : List Command) → Settling old mid cs ds →
+then_led : RulesServe → (old mid : List Use) (u : Use) (cs ds es : List Command) →
+    Settling old mid cs ds →
     HelpsAt u ds → (l : Leads u ds es) → (inputs : ℕ) (rest : List Command) →
     IsValid inputs (cs ++ rest) → ServesWhole inputs u.rule u.place ds es rest
-then_led old mid u cs ds es s h l inputs rest v =
-    serves_whole inputs u ds es rest l (helps_useful u ds es h l)
+then_led serves old mid u cs ds es s h l inputs rest v =
+    serves_whole serves inputs u ds es rest l (helps_useful u ds es h l)
     (derived_valid inputs s.added (cs ++ rest) (ds ++ rest) (s.derives inputs rest v) v)
 
-pub settling_more : (old mid new : List Use) (u : Use) (cs ds es : List Command) →
+pub settling_more : RulesServe → (old mid new : List Use) (u : Use) (cs ds es : List Command) →
     Settling old mid cs ds → HelpsAt u ds → Leads u ds es → new ≡ mid ++ (u ∷ []) →
     Settling old new cs es
-settling_more old mid new u cs ds es s h l to = record {
+settling_more serves old mid new u cs ds es s h l to = record {
   added = s.added ++ (u ∷ []);
   is = to ∙ ap (λ (us : List Use). us ++ (u ∷ [])) s.is ∙ append_assoc old s.added (u ∷ []);
   few =
@@ -85,9 +87,9 @@ settling_more old mid new u cs ds es s h l to = record {
   derives = λ inputs rest v.
       derives_on inputs s.added (u ∷ []) (cs ++ rest) (ds ++ rest) (es ++ rest)
       (s.derives inputs rest v)
-      (one_use (then_led old mid u cs ds es s h l inputs rest v).step no_use);
+      (one_use (then_led serves old mid u cs ds es s h l inputs rest v).step no_use);
   same = λ inputs rest v.
-      s.same inputs rest v ∙ (then_led old mid u cs ds es s h l inputs rest v).same;
+      s.same inputs rest v ∙ (then_led serves old mid u cs ds es s h l inputs rest v).same;
 }
 
 -- the list so far is valid
@@ -162,16 +164,17 @@ next_round inputs all n uses new cs ds c r v next few s done =
     }
 
 -- after the last
-pub all_rounds : (inputs : ℕ) (all : List Command) (n : ℕ) (uses : List Use) (cs : List Command) →
+pub all_rounds : SettledIsStandard → (inputs : ℕ) (all : List Command) (n : ℕ) (uses : List Use)
+    (cs : List Command) →
     AfterRounds inputs all n uses cs → IsValid inputs all → drop n all ≡ [] → n ≤ 64 →
     length all ≤ 64 → LeadsToStandard inputs uses all
-all_rounds inputs all n uses cs r v none few most =
+all_rounds law inputs all n uses cs r v none few most =
     let end : cs ++ drop n all ≡ cs =
     ap (λ (xs : List Command). cs ++ xs) none ∙ append-nil cs in
     let derived : Derives inputs uses all cs = subst (Derives inputs uses all) end r.derives in
     let valid = derived_valid inputs uses all cs derived v in
     let form : standard_commands inputs all ≡ cs =
-    r.same ∙ ap (standard_commands inputs) end ∙ settled_is_standard inputs cs valid r.settled in
+    r.same ∙ ap (standard_commands inputs) end ∙ (law inputs cs valid).0 r.settled in
     let uses_so_far = r.few in
     record {
       derives = subst (Derives inputs uses all) (sym form) derived;

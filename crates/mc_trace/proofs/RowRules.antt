@@ -13,7 +13,7 @@ use Rattle.mc_model.specs.StandardForm.{standard_commands}
 use Rattle.mc_model.specs.Derivation.{Step, Use, Derives}
 use Rattle.mc_model.specs.Derivation.{no_use, one_use}
 use Rattle.mc_pattern.specs.Rules.{is_prep}
-use Rattle.mc_trace.proofs.CommandsAtPlace.{IsTwo, two_here, here_is, next_is}
+use Rattle.mc_standard.proofs.CommandsAtPlace.{IsTwo, two_here, here_is, next_is}
 use Rattle.mc_derivations.specs.Following.{Leads}
 use Rattle.mc_derivations.specs.Checks.{BreaksRow, PrepsAt, IsTrace, BreaksTrace}
 use Rattle.mc_derivations.proofs.RuleReach.{derives_on}

@@ -11,6 +11,8 @@ use Rattle.mc_model.specs.Valid.{IsValid}
 use Rattle.mc_model.specs.Derivation.{Use}
 use Rattle.mc_derivations.specs.Effort.{room, effort}
 use Rattle.mc_rules.specs.Settled.{IsSettled}
+use Rattle.mc_rules.specs.Passing.{RulesServe, EarlierPasses}
+use Rattle.mc_rules.specs.Laws.{SettledIsStandard}
 use Rattle.mc_standard.specs.declared.rule.Rule.{Rule as Coded}
 use Rattle.mc_standard.specs.Uses.{plain_rule}
 use Rattle.mc_trace.specs.Choosing.{HelpsAt, IsDoneAt, IsSomewhereValid, rule_for_one, rule_for_two}
@@ -22,15 +24,21 @@ use Rattle.mc_trace.proofs.RoundLemmas.{next_somewhere, no_round, settling_more,
 use Rattle.mc_trace.proofs.RoundLemmas.{somewhere_now}
 use Rattle.mc_trace.proofs.UsesServe.{helps_leads}
 
+-- the laws of rules that the rounds rest on
+pub record RoundLaws : Type 0 where
+  pub serves : RulesServe
+  pub passes : EarlierPasses
+  pub settled : SettledIsStandard
+
 -- ---- the next use
 
 abbrev HasUse : List Command → Type 0
 HasUse cs = (u : Use) × HelpsAt u cs
 
 -- a use helps at the place, or nothing is left to do there
-found_at : (cs : List Command) (i : ℕ) → IsSomewhereValid cs → i < length cs →
+found_at : RoundLaws → (cs : List Command) (i : ℕ) → IsSomewhereValid cs → i < length cs →
     HasUse cs ⊎ IsDoneAt i cs
-found_at cs i v l = by (rule_for_one here) refl
+found_at laws cs i v l = by (rule_for_one here) refl
   where
     here : Command
     here = get_or cs i (Prep 0)
@@ -51,18 +59,18 @@ found_at cs i v l = by (rule_for_one here) refl
     by None e = elim (cases_lt (i + 1) (length cs)) [
       | inl more ↦
           of_found (rule_for_two here next)
-          (two_at_place cs i here next (rule_for_two here next) v (omega arith) read
+          (two_at_place laws.passes cs i here next (rule_for_two here next) v (omega arith) read
           (get_or_default cs (i + 1) (Prep 0) next more) e refl)
       | inr last ↦ inr (done_last cs i here v last read e)
     ]
 
 -- a use helps at one of the first places, or nothing is left to do at any of them
-found_before : (cs : List Command) (n : ℕ) → IsSomewhereValid cs → n ≤ length cs →
+found_before : RoundLaws → (cs : List Command) (n : ℕ) → IsSomewhereValid cs → n ≤ length cs →
     HasUse cs ⊎ ((k : ℕ) → k < n → IsDoneAt k cs)
-found_before cs zero v l = inr (λ k h. absurd (omega arith))
-found_before cs (suc n) v l = elim (found_before cs n v (omega arith)) [
+found_before laws cs zero v l = inr (λ k h. absurd (omega arith))
+found_before laws cs (suc n) v l = elim (found_before laws cs n v (omega arith)) [
   | inl found ↦ inl found
-  | inr done ↦ elim (found_at cs n v (omega arith)) [
+  | inr done ↦ elim (found_at laws cs n v (omega arith)) [
     | inl found ↦ inl found
     | inr here ↦ inr (λ k h. elim (cases_eq k n) [
       | inl e ↦ subst (λ (m : ℕ). IsDoneAt m cs) (sym e) here
@@ -71,8 +79,8 @@ found_before cs (suc n) v l = elim (found_before cs n v (omega arith)) [
   ]
 ]
 
-use_or_settled : (cs : List Command) → IsSomewhereValid cs → HasUse cs ⊎ IsSettled cs
-use_or_settled cs v = elim (found_before cs (length cs) v (omega arith)) [
+use_or_settled : RoundLaws → (cs : List Command) → IsSomewhereValid cs → HasUse cs ⊎ IsSettled cs
+use_or_settled laws cs v = elim (found_before laws cs (length cs) v (omega arith)) [
   | inl found ↦ inl found
   | inr done ↦ inr (all_done cs (length cs) (omega arith) done)
 ]
@@ -87,30 +95,31 @@ record IsSettledBy (old : List Use) (cs : List Command) : Type 0 where
   settled : IsSettled last
 
 -- by the effort that may be left
-settle_within : (most : ℕ) (old mid : List Use) (cs ds : List Command) → Settling old mid cs ds →
+settle_within : RoundLaws → (most : ℕ) (old mid : List Use) (cs ds : List Command) →
+    Settling old mid cs ds →
     IsSomewhereValid cs → effort (room cs) ds ≤ most → IsSettledBy old cs
-settle_within zero old mid cs ds s v h =
-    elim (use_or_settled ds (somewhere_now old mid cs ds s v)) [
+settle_within laws zero old mid cs ds s v h =
+    elim (use_or_settled laws ds (somewhere_now old mid cs ds s v)) [
       | inr settled ↦ record { uses = mid; last = ds; settling = s; settled = settled }
       | inl found ↦
           let falls =
           effort_falls old mid found.0 cs ds _ s found.1 (helps_leads found.0 ds found.1) in
           absurd (omega arith)
     ]
-settle_within (suc most) old mid cs ds s v h =
-    elim (use_or_settled ds (somewhere_now old mid cs ds s v)) [
+settle_within laws (suc most) old mid cs ds s v h =
+    elim (use_or_settled laws ds (somewhere_now old mid cs ds s v)) [
       | inr settled ↦ record { uses = mid; last = ds; settling = s; settled = settled }
       | inl found ↦
           let leads = helps_leads found.0 ds found.1 in
           let falls = effort_falls old mid found.0 cs ds _ s found.1 leads in
-          settle_within most old (mid ++ (found.0 ∷ [])) cs _
-          (settling_more old mid (mid ++ (found.0 ∷ [])) found.0 cs ds _ s found.1 leads refl) v
+          settle_within laws most old (mid ++ (found.0 ∷ [])) cs _
+          (settling_more laws.serves old mid (mid ++ (found.0 ∷ [])) found.0 cs ds _ s found.1 leads refl) v
           (omega arith)
     ]
 
-settle : (old : List Use) (cs : List Command) → IsSomewhereValid cs → IsSettledBy old cs
-settle old cs v =
-    settle_within (effort (room cs) cs) old old cs cs (settling_none old cs) v (omega arith)
+settle : RoundLaws → (old : List Use) (cs : List Command) → IsSomewhereValid cs → IsSettledBy old cs
+settle laws old cs v =
+    settle_within laws (effort (room cs) cs) old old cs cs (settling_none old cs) v (omega arith)
 
 -- ---- the rounds
 
@@ -119,15 +128,16 @@ record HasRounds (inputs : ℕ) (all : List Command) (n : ℕ) : Type 0 where
   list : List Command
   after : AfterRounds inputs all n uses list
 
-rounds : (inputs : ℕ) (all : List Command) (n : ℕ) → IsValid inputs all → length all ≤ 64 →
+rounds : RoundLaws → (inputs : ℕ) (all : List Command) (n : ℕ) → IsValid inputs all →
+    length all ≤ 64 →
     n ≤ length all → HasRounds inputs all n
-rounds inputs all zero v few l =
+rounds laws inputs all zero v few l =
     record { uses = []; list = []; after = no_round inputs all }
-rounds inputs all (suc n) v few l =
-    let r = rounds inputs all n v few (omega arith) in
+rounds laws inputs all (suc n) v few l =
+    let r = rounds laws inputs all n v few (omega arith) in
     let c : Command = get_or all n (Prep 0) in
     let next : drop n all ≡ c ∷ drop (n + 1) all = drop_more all n (Prep 0) (omega arith) in
-    let s = settle r.uses (r.list ++ (c ∷ []))
+    let s = settle laws r.uses (r.list ++ (c ∷ []))
     (next_somewhere inputs all n r.uses r.list c r.after v next) in
     let more : n + 1 ≡ suc n = omega arith in
     record {
@@ -138,10 +148,10 @@ rounds inputs all (suc n) v few l =
           s.settling s.settled);
     }
 
-pub derivations_exist : DerivationsExist
-derivations_exist inputs cs v few =
-    let r = rounds inputs cs (length cs) v few (omega arith) in (
+pub derivations_exist : RoundLaws → DerivationsExist
+derivations_exist laws inputs cs v few =
+    let r = rounds laws inputs cs (length cs) v few (omega arith) in (
       r.uses,
-      all_rounds inputs cs (length cs) r.uses r.list r.after v
+      all_rounds laws.settled inputs cs (length cs) r.uses r.list r.after v
           (drop_all (length cs) cs (omega arith)) few few,
     )

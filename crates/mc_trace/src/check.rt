@@ -13,15 +13,14 @@ ghost use Rattle.mc_cert.specs.Rules.{breach_of};
 ghost use Rattle.mc_derivations.specs.Checks.{BreaksRow, PrepsAt};
 ghost use Rattle.mc_trace.specs.Judging.{Judges};
 
-use crate::copy::copy_all;
 use crate::derivation::Derivation;
 use crate::following::follow;
 use crate::same::are_same;
 use mc_cert::Verdict;
 use mc_model::Memory;
 use mc_pattern::{Command, Pattern};
-use mc_rules::derivations_keep_patterns;
-use mc_standard::{Use, standardise};
+use mc_rules::{derivations_keep_patterns, rules_serve};
+use mc_standard::{Use, copy_commands, standardise};
 use std::alloc::Global;
 
 /// The most commands of a list on the way.
@@ -62,6 +61,7 @@ fn follow_row<const H: usize>(commands: &mut Vec<Command<H>>, u: Use) -> Result<
         (λ rule. (inputs : ℕ) → IsValid inputs (map plain_command commands.old.items) →
         BreaksRow inputs (plain_use u) (map plain_command commands.old.items) rule)) }
 {
+    rules_serve();
     let exchanges = are_preps(commands.as_slice(), u.place);
     if let Some(rule) = follow(commands, u)? {
         return Ok(Some(rule));
@@ -109,7 +109,7 @@ pub fn check_trace<const H: usize>(
     derivations_keep_patterns();
     // the proof needs that the pattern is valid
     let _names = p.names();
-    let mut commands = copy_all(alloc, p.commands())?;
+    let mut commands = copy_commands(alloc, p.commands())?;
     let rows = d.len();
     'rows: for row in 0..rows {
         if let Some(rule) = follow_row(&mut commands, d.get(row))? {

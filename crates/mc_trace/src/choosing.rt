@@ -11,6 +11,7 @@ ghost use Rattle.mc_trace.specs.Choosing.{rule_for_edges, rule_for_fixes};
 ghost use Rattle.mc_trace.specs.Choosing.{rule_behind_measure, rule_behind_x, rule_behind_z};
 
 use mc_pattern::Command;
+use mc_rules::rules_serve;
 use mc_standard::{Rule, Use};
 
 /// The rule for one command: an entangling whose first operand is the greater is turned, a correction that never acts dropped.
@@ -159,6 +160,7 @@ fn rule_at<const H: usize>(commands: &[Command<H>], i: usize) -> Option<Rule>
         (λ rule. HelpsAt (record { place = i + 1; rule = plain_rule rule })
         (map plain_command commands.now)) }
 {
+    rules_serve();
     let command = &commands[i];
     if let Some(rule) = rule_for_one(command) {
         return Some(rule);

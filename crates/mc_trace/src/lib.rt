@@ -6,7 +6,6 @@
 
 mod check;
 mod choosing;
-mod copy;
 mod derivation;
 mod fitting;
 mod following;

@@ -1,6 +1,6 @@
 //! The derivation of the standard form, a command at a time.
 
-ghost use Rattle.std.specs.Prelude.{◌≤◌, length, map, All, IfOk, OnOk};
+ghost use Rattle.std.specs.Prelude.{◌≡◌, ◌≤◌, ◌∷◌, ◌++◌, [], length, map, All, IfOk, OnOk};
 ghost use Rattle.mc_pattern.specs.Commands.{plain_command};
 ghost use Rattle.mc_rules.specs.Settled.{IsSettled};
 ghost use Rattle.mc_trace.specs.Choosing.{IsSomewhereValid};
@@ -8,12 +8,13 @@ ghost use Rattle.mc_derivations.specs.Derivations.{LeadsToStandard};
 ghost use Rattle.mc_trace.specs.Rounds.{Settling};
 
 use crate::choosing::next_use;
-use crate::copy::append_copy;
 use crate::derivation::Derivation;
 use crate::following::follow;
 use mc_derivations::derivations_stay_short;
 use mc_model::Memory;
 use mc_pattern::{Command, Pattern};
+use mc_rules::{rules_serve, settled_is_standard};
+use mc_standard::copy_command;
 use std::alloc::Global;
 
 /// Uses rules in the commands until they are in standard form, and adds the uses to the derivation.
@@ -26,6 +27,7 @@ fn settle<const H: usize>(
         (map plain_command commands.old.items) (map plain_command commands.new.items)) }
     ensures done { OnOk result (IsSettled (map plain_command commands.new.items)) }
 {
+    rules_serve();
     'uses: while let Some(chosen) = next_use(commands.as_slice()) {
         if let Some(_) = follow(commands, chosen)? {
             unreachable!();
@@ -33,6 +35,20 @@ fn settle<const H: usize>(
         derivation.push(chosen)?;
     }
     Ok(())
+}
+
+/// Adds the same command, which goes last.
+fn append_copy<const H: usize>(
+    commands: &mut Vec<Command<H>>,
+    command: &Command<H>,
+) -> Result<(), Memory>
+    ensures { OnOk result (map plain_command commands.new.items ≡
+        map plain_command commands.old.items ++ plain_command command.now ∷ []) }
+{
+    match commands.push(copy_command(command)?) {
+        Ok(()) => Ok(()),
+        Err(_) => Err(Memory),
+    }
 }
 
 /// A derivation from a pattern to its standard form, of at most 65,536 uses, at places of at most 4,096 and through lists of at
@@ -45,6 +61,7 @@ pub fn derive<const H: usize>(alloc: Global, p: &Pattern<H>) -> Result<Derivatio
     ensures places { IfOk result (All (λ u. u.place ≤ 4_096)) }
 {
     derivations_stay_short();
+    settled_is_standard();
     // the proof needs that the pattern is valid
     let _names = p.names();
     let mut derivation = Derivation::new(alloc);

@@ -8,7 +8,7 @@ pub returns-then-k-eq0-clause-settles : goal.returns-then-k-eq0-clause-settles
 returns-then-k-eq0-clause-settles g c =
     let none = rw c.in_default.is at c.in_ok-rule.ensures.settles in (
       none.0,
-      stays_further _ c.args.k (rw length-map (omega arith)) none.1
+      stays_further c.parts_in_order.ensures _ c.args.k (rw length-map (omega arith)) none.1
           (λ h. absurd (let e = c.if-k-eq0.true in omega arith)),
     )
 
@@ -24,5 +24,5 @@ returns-in-None-clause-settles g c =
     let none = rw c.in_default.is at c.in_ok-rule.ensures.settles in
     let neither = rw (c.in-None.is, none.0) at c.in_ok-rule-2.ensures.settles in (
       neither.0,
-      stays_further _ c.args.k (rw length-map (omega arith)) none.1 (λ h. neither.1),
+      stays_further c.parts_in_order.ensures _ c.args.k (rw length-map (omega arith)) none.1 (λ h. neither.1),
     )

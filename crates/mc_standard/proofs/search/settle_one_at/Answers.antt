@@ -1,7 +1,8 @@
 use Rattle.std.proofs.Common.{refl, arith}
 use Rattle.std.proofs.lemmas.List.{length-map}
 use Rattle.mc_pattern.specs.Commands.{plain_command}
-use Rattle.mc_standard.proofs.ImprovedAtPlace.{settled_one_at, tidy_at, read_at}
+use Rattle.mc_standard.proofs.CommandsAtPlace.{read_at}
+use Rattle.mc_standard.proofs.ImprovedAtPlace.{settled_one_at, tidy_at}
 use Rattle.mc_standard.proofs.search.settle_one_at.Goals as goal
 
 pub returns-in_default-clause-settles : goal.returns-in_default-clause-settles
@@ -16,5 +17,5 @@ returns-clause-settles g c =
     let items = c.args.commands.now.items in
     let plain = plain_command {h = g.row.H} in
     let here = read_at plain items c.args.k c.index.result.now c.index.ensures in
-    settled_one_at c.in-Some.field-0 _ _ c.args.k (plain_command c.index.result.now)
+    settled_one_at c.rules_improve.ensures.one c.in-Some.field-0 _ _ c.args.k (plain_command c.index.result.now)
     (rw length-map (omega arith)) here c.in-Some.ensures c.in_ok-apply.ensures.ok

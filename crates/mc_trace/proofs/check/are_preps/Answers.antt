@@ -1,7 +1,7 @@
 use Rattle.std.proofs.Common.{◌-◌, arith}
 use Rattle.std.proofs.lemmas.List.{length-map}
 use Rattle.mc_pattern.specs.Commands.{plain_command}
-use Rattle.mc_trace.proofs.CommandsAtPlace.{read_at}
+use Rattle.mc_standard.proofs.CommandsAtPlace.{read_at}
 use Rattle.mc_trace.proofs.RowRules.{first_test, second_test}
 use Rattle.mc_trace.proofs.check.are_preps.Goals as goal
 

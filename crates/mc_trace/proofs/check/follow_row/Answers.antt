@@ -22,4 +22,4 @@ pub returns : goal.returns
 returns g c =
     let leads = rw c.in_default.is at c.in_ok-rule.ensures.follows in
     let apart = rw c.as_slice.ensures.value at c.if-exchanges.ensures in
-    λ inputs v. led_step inputs (plain_use c.args.u) _ _ leads apart v
+    λ inputs v. led_step c.rules_serve.ensures.anywhere inputs (plain_use c.args.u) _ _ leads apart v

@@ -2,7 +2,7 @@ use Rattle.std.proofs.Common.{◌+◌, sym, arith}
 use Rattle.std.proofs.lemmas.List.{length-map}
 use Rattle.mc_pattern.specs.Commands.{plain_command}
 use Rattle.mc_trace.proofs.ChosenUses.{one_at_place, done_last, two_at_place}
-use Rattle.mc_trace.proofs.CommandsAtPlace.{read_at}
+use Rattle.mc_standard.proofs.CommandsAtPlace.{read_at}
 use Rattle.mc_trace.proofs.choosing.rule_at.Goals as goal
 
 pub returns-in-Some : goal.returns-in-Some
@@ -28,7 +28,7 @@ pub returns : goal.returns
 returns g c =
     let plain = plain_command {h = g.row.H} in
     let items = c.args.commands.now in
-    two_at_place _ c.args.i (plain c.index-commands-i.result)
+    two_at_place c.rules_serve.ensures.passing _ c.args.i (plain c.index-commands-i.result)
     (plain c.index-commands-i-2.result) c.rule_for_two.result c.requires.valid
     (rw length-map (omega arith))
     (read_at plain items c.args.i c.index-commands-i.result c.index-commands-i.is)

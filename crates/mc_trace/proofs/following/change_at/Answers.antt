@@ -3,7 +3,7 @@ use Rattle.std.proofs.lemmas.List.{length-map}
 use Rattle.mc_pattern.specs.Commands.{plain_command}
 use Rattle.mc_standard.specs.Uses.{plain_rule}
 use Rattle.mc_trace.proofs.Leading.{reach_two, found_one, leads_two, nowhere_two}
-use Rattle.mc_trace.proofs.CommandsAtPlace.{read_at}
+use Rattle.mc_standard.proofs.CommandsAtPlace.{read_at}
 use Rattle.mc_trace.proofs.following.change_at.Goals as goal
 
 pub returns-then-reach_of-eq1 : goal.returns-then-reach_of-eq1

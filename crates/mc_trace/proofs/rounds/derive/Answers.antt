@@ -45,7 +45,7 @@ led g c =
     let same = length-map c.commands-command-items.result.now plain in
     let within = c.commands.auto.command-index-end in
     let most = c.requires in
-    all_rounds _ _ c.commands.command-index _ _ c.commands.invariant
+    all_rounds c.settled_is_standard.ensures _ _ c.commands.command-index _ _ c.commands.invariant
     c.names-names.ensures.valid.valid.commands
     (at_end {h = g.row.H} c.commands-command-items.result.now _ _ c.commands-command-items.ensures
     c.commands-test.false) (omega arith) c.requires

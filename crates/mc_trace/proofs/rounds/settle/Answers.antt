@@ -28,5 +28,5 @@ uses-smaller g c =
 pub uses-preserved : goal.uses-preserved
 uses-preserved g c =
     let helps = rw c.as_slice.ensures.value at c.in-Some.ensures in
-    settling_more _ _ _ (plain_use c.in-Some.chosen) _ _ _ c.uses.invariant helps
+    settling_more c.rules_serve.ensures.anywhere _ _ _ (plain_use c.in-Some.chosen) _ _ _ c.uses.invariant helps
     (rw c.in_default-2.is at c.in_ok-follow.ensures.follows) c.in_ok-push.ensures.ok

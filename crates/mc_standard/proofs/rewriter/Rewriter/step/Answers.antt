@@ -17,7 +17,7 @@ passing : (g : Over) (c : goal.After-self-then-early-len-1 g) →
 passing g c =
     let slice = c.as_slice.ensures.value in
     let first = c.first_early-early.ensures in
-    rw (← c.self.view_is) (next_by_passing _ _ (plain_rule c.in_ok-rule.rule)
+    rw (← c.self.view_is) (next_by_passing c.rewriting_laws.ensures _ _ (plain_rule c.in_ok-rule.rule)
     c.first_early-early.result _ _ _ c.self.invariant.valid c.self.invariant.done
     (rw slice at first.in_order) (rw slice at first.early (omega arith))
     c.in_ok-rule.ensures.passes c.min-self-inside.ensures)
@@ -30,7 +30,7 @@ settling : (g : Over) (c : goal.After-self-in-Some-2-1 g) →
 settling g c =
     let slice = c.as_slice.ensures.value in
     let first = c.first_early-early.ensures in
-    rw (← c.self.view_is) (next_by_settling _ _ (plain_use c.in-Some.used) _ _
+    rw (← c.self.view_is) (next_by_settling c.rewriting_laws.ensures _ _ (plain_use c.in-Some.used) _ _
     c.first_early-early.result c.len-self-inside.result c.self.invariant.valid c.self.invariant.done
     (rw slice at first.in_order) (rw length-map (omega arith))
     (rw c.in-Some.is at c.in_ok-used.ensures.settles) (rw length-map (omega arith)))
@@ -45,7 +45,7 @@ lasting g c =
     let size = ap length none.0 in
     let now = c.self.inside.commands.ok.0 in
     let new = c.settle_from.new.commands.ok.0 in
-    rw (← c.self.view_is) (last_use _ _ _ c.first_early-early.result
+    rw (← c.self.view_is) (last_use c.rewriting_laws.ensures _ _ _ c.first_early-early.result
     c.len-self-inside-in-None.result c.len-self-inside-in-None-2.result
     (vec_len c.self.inside.commands) c.self.invariant.valid c.self.invariant.done
     (rw slice at first.in_order) (rw length-map (omega arith)) none.1 (rw length-map (omega arith))
