@@ -59,7 +59,7 @@ rows_fit names second order p lines end clean e =
     let all : names_of rows ≡ measured_order p.commands =
     h.due ∙ take_all (length rows) order (enough (length rows) (length order)
     (unbroken (nat_lt (length rows) (length order)) OtherRow [] ended).0) ∙ e in
-    (record { qubits = qubits_are rows ∙ all; earlier = rw all at h.earlier }, h.sets)
+    (record { qubits = qubits_are rows ∙ all; earlier = rw e at h.earlier }, h.sets)
   where
     one_more : (rows : List Row) (words : Words) → IsSoFar order rows
         → Passes (change_kind second order) rows (row_in change_shape names words)

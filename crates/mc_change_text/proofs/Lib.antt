@@ -1,6 +1,4 @@
-pub mod Lists
 pub mod Keeping
 pub mod Fits
 pub mod Measured
 pub mod Sound
-pub mod Printing

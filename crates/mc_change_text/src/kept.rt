@@ -64,21 +64,11 @@ fn signal_of(members: QSet, constant: bool) -> Signal
     signal
 }
 
-/// The first of a list, so many of them as there are.
-fn first_of(numbers: &[u16], count: usize) -> &[u16]
-    ensures { result.now ≡ take count numbers.now }
-{
-    if count < numbers.len() {
-        return numbers.split_at(count).0;
-    }
-    numbers
-}
-
 /// Whether a number is among the first of a list.
 fn is_among(numbers: &[u16], count: usize, q: u16) -> bool
     ensures { result ≡ is_member (take count numbers.now) q }
 {
-    first_of(numbers, count).iter().any(|other| q == *other)
+    numbers.iter().take(count).any(|other| q == *other)
 }
 
 impl Rows for KeptChange {
