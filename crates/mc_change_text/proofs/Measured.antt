@@ -21,5 +21,6 @@ pub measured_named : (p : Pattern) → IsValidPattern p
 measured_named p valid =
     let n = length p.names in
     let all = valid.qubits in
+    let made = valid_in_place p.inputs n [] p.commands valid.commands (omega arith) in
     All-from_recursion (λ (q : ℕ). q < n) (measured_order p.commands)
-    (measured_in n p.commands (valid_in_place p.inputs n [] p.commands valid.commands (omega arith)))
+    (measured_in n p.commands made)

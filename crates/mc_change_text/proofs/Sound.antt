@@ -63,7 +63,7 @@ rows_named p rows valid h i d lt =
 -- the rows that are left of a change, behind the others
 module _ (p : Pattern) (rows : List ChangeRow) (valid : IsValidPattern p) (h : IsChangeOf p rows)
     (sets : AreSets rows) where
-  abbrev kind : Kind
+  abbrev pub kind : Kind
   kind = change_kind (change_version rows == 2) (measured_order p.commands)
 
   rows_sound : (last : Option Head) (done left : List ChangeRow) → rows ≡ done ++ left
