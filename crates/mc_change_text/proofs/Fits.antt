@@ -1,9 +1,10 @@
 -- The rows of a section without a fault are those of the measured qubits, in order.
 use Rattle.std.proofs.Common.{◌≡◌, ℕ, ◌≤◌, Bool, false, List, [], ◌∷◌, ◌++◌, length, map}
 use Rattle.std.proofs.Common.{refl, ap, arith, ◌∙◌, nat_lt, ◌==◌, None}
-use Rattle.std.proofs.lemmas.Bool.Decides.{nat_tests}
+use Rattle.std.proofs.lemmas.Bool.{ltb-false}
 use Rattle.std.proofs.lemmas.List.{map-append, take_all}
 use Rattle.std.proofs.lemmas.List.Elements.{All-nil}
+use Rattle.std.proofs.lemmas.Simd.{map-map}
 use Rattle.mc_lex.specs.Lines.{Line}
 use Rattle.mc_model.specs.Names.{Name}
 use Rattle.mc_model.specs.Numbers.{is_member}
@@ -26,12 +27,8 @@ use Rattle.mc_change_text.specs.Kinds.{names_of, rows_of}
 use Rattle.mc_change_text.specs.Kept.{IsChangeSoFar}
 use Rattle.mc_change_text.proofs.Keeping.{kept_more}
 
-enough : (a b : ℕ) → nat_lt a b ≡ false → b ≤ a
-enough a b none = grind (arith, nat_tests)
-
 qubits_are : (rows : List Row) → qubits_of (map change_row rows) ≡ names_of rows
-qubits_are [] = refl
-qubits_are (row ∷ rows) = ap (λ (qs : List ℕ). row.name ∷ qs) (qubits_are rows)
+qubits_are rows = map-map (λ (row : ChangeRow). row.qubit) change_row rows
 
 -- the rows so far are a change so far
 abbrev IsSoFar : List ℕ → List Row → Type 0
@@ -57,9 +54,9 @@ rows_fit names second order p lines end clean e =
     let h = rows_hold kind names (IsSoFar order) one_more lines end (none_so_far order) clean in
     let ended = rows_end kind names (IsSoFar order) one_more lines end (none_so_far order) clean in
     let all : names_of rows ≡ measured_order p.commands =
-    h.due ∙ take_all (length rows) order (enough (length rows) (length order)
+    h.due ∙ take_all (length rows) order (ltb-false (length rows) (length order)
     (unbroken (nat_lt (length rows) (length order)) OtherRow [] ended).0) ∙ e in
-    (record { qubits = qubits_are rows ∙ all; earlier = rw all at h.earlier }, h.sets)
+    (record { qubits = qubits_are rows ∙ all; earlier = rw e at h.earlier }, h.sets)
   where
     one_more : (rows : List Row) (words : Words) → IsSoFar order rows
         → Passes (change_kind second order) rows (row_in change_shape names words)

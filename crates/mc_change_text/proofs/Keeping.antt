@@ -1,12 +1,10 @@
 -- What is kept of the rows of a change, with one row more.
-use Rattle.std.proofs.Common.{◌≡◌, ℕ, suc, Bool, true, false, List, [], ◌∷◌, ◌++◌, length}
+use Rattle.std.proofs.Common.{◌≡◌, ℕ, zero, suc, Bool, true, false, List, [], ◌∷◌, ◌++◌, length}
 use Rattle.std.proofs.Common.{Option, Some, None, slice_get, refl, sym, ap, ◌∙◌, arith, inl, inr}
-use Rattle.std.proofs.Common.{length-append, not}
-use Rattle.std.proofs.Math.Seq.{take-append_seam}
+use Rattle.std.proofs.Common.{length-append, not, take, ◌⊎◌}
 use Rattle.std.proofs.lemmas.Bool.{eqb-true}
-use Rattle.std.proofs.lemmas.List.{map-append, length-map, take-append-le}
+use Rattle.std.proofs.lemmas.List.{map-append, length-map}
 use Rattle.std.proofs.lemmas.List.Elements.{All-push}
-use Rattle.std.proofs.lemmas.Option.{slice_get_within}
 use Rattle.mc_model.specs.Numbers.{is_member}
 use Rattle.mc_model.specs.Signals.{IsRising}
 use Rattle.mc_model.specs.Shift.{ChangeRow, AreEarlier}
@@ -20,7 +18,6 @@ use Rattle.mc_rows.specs.Kept.{Passes}
 use Rattle.mc_rows.proofs.Printing.{taken_more}
 use Rattle.mc_change_text.specs.Kinds.{change_kind, change_row, follows_in_change, is_this, names_of}
 use Rattle.mc_change_text.specs.Kept.{IsChangeSoFar}
-use Rattle.mc_change_text.proofs.ListsWithOneMore.{more_get}
 
 this_one : (due : Option ℕ) (q : ℕ) → is_this due q ≡ true → due ≡ Some q
 this_one None q e = absurd (cc e)
@@ -39,18 +36,27 @@ row_head (Some O) (Some End) e f = absurd (cc f)
 row_head (Some O) (Some _) e f = absurd (cc e)
 row_head (Some _) head e f = absurd (cc e)
 
-earlier_more : (names : List ℕ) (name : ℕ) (change : List ChangeRow) (row : ChangeRow)
-    → length names ≡ length change → AreEarlier names change
-    → ((q : ℕ) → is_member row.signal.members q ≡ true → is_member names q ≡ true)
-    → AreEarlier (names ++ name ∷ []) (change ++ row ∷ [])
-earlier_more names name change row len earlier last i r get q is =
+-- what stands at a place of a list with one more
+more_get : {A : Type 0} (xs : List A) (x : A) (i : ℕ) (y : A)
+    → slice_get (xs ++ x ∷ []) i ≡ Some y
+    → (slice_get xs i ≡ Some y) ⊎ ((i ≡ length xs) × (x ≡ y))
+more_get [] x zero y e = inr (refl, cc e)
+more_get [] x (suc i) y e = absurd (cc e)
+more_get (z ∷ xs) x zero y e = inl e
+more_get (z ∷ xs) x (suc i) y e = elim (more_get xs x i y e) [
+  | inl f ↦ inl f
+  | inr f ↦ inr (ap suc f.0, f.1)
+]
+
+earlier_more : (order : List ℕ) (change : List ChangeRow) (row : ChangeRow)
+    → AreEarlier order change
+    → ((q : ℕ) → is_member row.signal.members q ≡ true
+    → is_member (take (length change) order) q ≡ true)
+    → AreEarlier order (change ++ row ∷ [])
+earlier_more order change row earlier last i r get q is =
     elim (more_get change row i r get) [
-      | inl before ↦
-          let lt = slice_get_within change i r before in
-          rw (take-append-le i names (name ∷ []) (omega arith)) (earlier i r before q is)
-      | inr here ↦
-          let place : i ≡ length names = here.0 ∙ sym len in
-          rw (place, take-append_seam names (name ∷ [])) (last q (rw here.1 is))
+      | inl before ↦ earlier i r before q is
+      | inr here ↦ rw here.0 (last q (rw here.1 is))
     ]
 
 pub kept_more : (second : Bool) (order : List ℕ) (change change' : List ChangeRow)
@@ -63,21 +69,19 @@ kept_more second order change change' rows row more rising passes h =
     let this = is_this (slice_get order (length rows)) row.name in
     let due = this_one (slice_get order (length rows)) row.name
     (not_false this (unbroken (not this) OtherRow [] named).0) in
-    let names : names_of (rows ++ row ∷ []) ≡ names_of rows ++ row.name ∷ [] =
-    map-append (λ (r : Row). r.name) rows (row ∷ []) in
     let count = length-append rows (row ∷ []) in
     let next : length (rows ++ row ∷ []) ≡ suc (length rows) = omega (arith, count) in
-    let len : length (names_of rows) ≡ length change =
-    length-map rows (λ (r : Row). r.name)
-    ∙ sym (ap length h.change_is ∙ length-map rows change_row) in
+    let len : length change ≡ length rows = ap length h.change_is ∙ length-map rows change_row in
     record {
       change_is = rw (more, h.change_is) (sym (map-append change_row rows (row ∷ [])));
-      due = rw (names, next, h.due) (sym (taken_more order (length rows) row.name due));
-      earlier = rw (more, names)
-          (earlier_more (names_of rows) row.name change (change_row row) len h.earlier
+      due = rw (map-append (λ (r : Row). r.name) rows (row ∷ []), next, h.due)
+          (sym (taken_more order (length rows) row.name due));
+      earlier = rw more
+          (earlier_more order change (change_row row) h.earlier
           (λ q is.
           let listed = is_member (names_of rows) q in
-          not_false listed (unbroken (not listed) NotMeasured [] (passes.listed q is)).0));
+          rw (len, ← h.due)
+          (not_false listed (unbroken (not listed) NotMeasured [] (passes.listed q is)).0)));
       sets = rw more
           (All-push (λ (r : ChangeRow). IsRising r.signal.members) change (change_row row) h.sets
           rising);

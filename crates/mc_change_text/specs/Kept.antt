@@ -11,5 +11,5 @@ pub record IsChangeSoFar (order : List ℕ) (change : List ChangeRow) (rows : Li
     : Type 0 where
   pub change_is : change ≡ map change_row rows
   pub due : names_of rows ≡ take (length rows) order
-  pub earlier : AreEarlier (names_of rows) change
+  pub earlier : AreEarlier order change
   pub sets : AreSets change

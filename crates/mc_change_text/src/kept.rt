@@ -2,7 +2,7 @@
 
 ghost use Rattle.std.specs.Prelude.{◌≡◌, [], take};
 ghost use Rattle.mc_model.specs.Numbers.{is_member};
-ghost use Rattle.mc_change_text.specs.Kinds.{change_kind, change_shape, follows_in_change};
+ghost use Rattle.mc_change_text.specs.Kinds.{change_kind};
 ghost use Rattle.mc_change_text.specs.Kept.{IsChangeSoFar};
 
 use mc_pattern::Change;
@@ -35,24 +35,6 @@ impl KeptChange {
     }
 }
 
-fn follows(last: Option<Head>, head: Option<Head>) -> bool
-    ensures { result ≡ follows_in_change last head }
-{
-    match (last, head) {
-        (None | Some(Head::O), Some(Head::O | Head::End)) => true,
-        _ => false,
-    }
-}
-
-fn shape(head: Option<Head>) -> Shape
-    ensures { result ≡ change_shape head }
-{
-    match head {
-        Some(Head::O) => Shape::Listed,
-        _ => Shape::Bare,
-    }
-}
-
 /// The signal with these members, and with the constant where that is said.
 fn signal_of(members: QSet, constant: bool) -> Signal
     ensures { result ≡ record { members = members; constant = constant } }
@@ -64,21 +46,11 @@ fn signal_of(members: QSet, constant: bool) -> Signal
     signal
 }
 
-/// The first of a list, so many of them as there are.
-fn first_of(numbers: &[u16], count: usize) -> &[u16]
-    ensures { result.now ≡ take count numbers.now }
-{
-    if count < numbers.len() {
-        return numbers.split_at(count).0;
-    }
-    numbers
-}
-
 /// Whether a number is among the first of a list.
 fn is_among(numbers: &[u16], count: usize, q: u16) -> bool
     ensures { result ≡ is_member (take count numbers.now) q }
 {
-    first_of(numbers, count).iter().any(|other| q == *other)
+    numbers.iter().take(count).any(|other| q == *other)
 }
 
 impl Rows for KeptChange {
@@ -90,11 +62,17 @@ impl Rows for KeptChange {
     ghost holds = { λ k rows. IsChangeSoFar k.order.items k.change rows };
 
     fn follows(&self, last: Option<Head>, head: Option<Head>) -> bool {
-        follows(last, head)
+        match (last, head) {
+            (None | Some(Head::O), Some(Head::O | Head::End)) => true,
+            _ => false,
+        }
     }
 
     fn shape(&self, head: Option<Head>) -> Shape {
-        shape(head)
+        match head {
+            Some(Head::O) => Shape::Listed,
+            _ => Shape::Bare,
+        }
     }
 
     fn second(&self) -> bool {

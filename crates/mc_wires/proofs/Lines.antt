@@ -38,11 +38,6 @@ names_first test before word = by_test (test (head_of word)) refl
     by_test true e = rw e refl
     by_test false e = rw e refl
 
-pub names_here : (test : Option Head → Bool) (before : Lines) (h : List ℕ) (words : Words)
-    → names_at test before (h ∷ words)
-    ≡ names_at test before [] ++ (if test (head_of h) then words else [])
-names_here test before h words = rw (append-nil (flat_map (names_in test) before)) refl
-
 pub names_more : (test : Option Head → Bool) (before : Lines) (h : List ℕ) (words : Words)
     (word : List ℕ)
     → names_at test before (h ∷ (words ++ word ∷ []))

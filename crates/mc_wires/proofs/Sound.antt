@@ -1,9 +1,9 @@
 -- The lines of names, gates and outputs are read without a fault, as these.
 use Rattle.std.proofs.Common.{◌≡◌, ℕ, suc, ◌+◌, ◌<◌, ◌≤◌, List, [], ◌∷◌, ◌++◌, All, Bool, true, false}
-use Rattle.std.proofs.Common.{◌&&◌, Option, Some, None, length, map, take, drop, codes, refl, sym, ap}
+use Rattle.std.proofs.Common.{Option, Some, None, length, map, take, drop, codes, refl, sym, ap}
 use Rattle.std.proofs.Common.{◌∙◌, append_assoc, length-append, arith, nat_eq, nat_le, cond, count_by}
 use Rattle.std.specs.List.{flat_map, list_all, list_any, IsDistinct, AllByRecursion}
-use Rattle.std.proofs.lemmas.Bool.{eq-eqb}
+use Rattle.std.proofs.lemmas.Bool.{and_parts, eq-eqb}
 use Rattle.std.proofs.lemmas.Bool.Decides.{nat_tests}
 use Rattle.std.proofs.lemmas.Grind.{flat_map-append}
 use Rattle.std.proofs.lemmas.List.{append-nil, map-append, get_or_append_left, take-append-drop}
@@ -23,9 +23,12 @@ use Rattle.mc_text.specs.Judged.{Words, Lines, Place}
 use Rattle.mc_text.specs.Lists.{names_in, names_at}
 use Rattle.mc_text.proofs.Clean.{CleanWords, Clean, last, more, IsRead, written_read}
 use Rattle.mc_text.proofs.Done.{last_head-more}
+use Rattle.mc_text.proofs.FirstNames.{all_parts, distinct_part, names_written}
+pub use Rattle.mc_text.proofs.FirstNames.{each_written as numbers_written}
 use Rattle.mc_text.proofs.Listed.{all_listed}
+use Rattle.mc_text.proofs.Members.{first_new}
 use Rattle.mc_text.proofs.Naming.{place-name_at, held-name_at, is_name-name_at, numbers-name_at}
-use Rattle.mc_text.proofs.Naming.{any-count, distinct_front, name_written}
+use Rattle.mc_text.proofs.Naming.{any-count}
 use Rattle.mc_text.proofs.Numbers.{listed-number}
 use Rattle.mc_text.proofs.Written.{is_written, is_written_line}
 use Rattle.mc_wires.specs.Kinds.{Kind, is_defining, is_input, is_output, is_gate, gate_lines}
@@ -46,10 +49,6 @@ pub record AreSound (kind : Kind) (ns : List Name) (inputs : ℕ) (gates : Lines
   pub once : ListsOnce (length ns) (λ v. true) outputs
   pub written : list_all is_written_line gates ≡ true
 
-and_both : (a b : Bool) → (a && b) ≡ true → (a ≡ true) × (b ≡ true)
-and_both true b e = (refl, e)
-and_both false b e = absurd (cc e)
-
 -- ---- lines of names
 
 -- distinct names may be defined
@@ -61,35 +60,15 @@ define_words : (kind : Kind) (before : Lines) (h : List ℕ) (done ws : Words)
 define_words kind before h done [] defines names distinct few = new_ends kind before h done defines
 define_words kind before h done (w ∷ ws) defines names distinct few =
     let earlier = names_at is_defining before [] in
-    let both = and_both (is_name w) (list_all is_name ws) names in
+    let both = and_parts (is_name w) (list_all is_name ws) names in
     let grouped : earlier ++ (done ++ w ∷ ws) ≡ (earlier ++ done) ++ w ∷ ws =
     sym (append_assoc earlier done (w ∷ ws)) in
-    let free = distinct_front (earlier ++ done) w ws (rw (← grouped) distinct) in
-    let len = length-append (earlier ++ done) (w ∷ ws) in
-    let few' : length ((earlier ++ done) ++ w ∷ ws) ≤ 256 = rw (← grouped) few in
-    let room : nat_le 256 (length (earlier ++ done)) ≡ false = grind (arith, nat_tests) in
     let next : (done ++ w ∷ []) ++ ws ≡ done ++ (w ∷ ws) = append_assoc done (w ∷ []) ws in (
-      new_at kind before h done w defines ∙ rw (both.0, free, room) refl,
+      new_at kind before h done w defines
+          ∙ first_new (earlier ++ done) w ws both.0 (rw (← grouped) distinct) (rw (← grouped) few),
       define_words kind before h (done ++ w ∷ []) ws defines both.1
           (rw next distinct) (rw next few),
     )
-
--- the parts of a list
-all_parts : (p : Name → Bool) (i : ℕ) (ns : List Name) → list_all p ns ≡ true
-    → (list_all p (take i ns) ≡ true) × (list_all p (drop i ns) ≡ true)
-all_parts p i ns all =
-    and_both (list_all p (take i ns)) (list_all p (drop i ns))
-    (sym (list_all-append p (take i ns) (drop i ns)) ∙ rw (take-append-drop i ns) all)
-
-front : (P : Name → Type 0) (xs ys : List Name) → AllByRecursion P (xs ++ ys) → AllByRecursion P xs
-front P [] ys all = tt
-front P (x ∷ xs) ys all = (all.0, front P xs ys all.1)
-
-distinct_part : (xs ys : List Name) → IsDistinct name_eq (xs ++ ys) → IsDistinct name_eq xs
-unfolding IsDistinct
-distinct_part [] ys distinct = tt
-distinct_part (x ∷ xs) ys distinct =
-    (front (λ y. name_eq x y ≡ false) xs ys distinct.0, distinct_part xs ys distinct.1)
 
 in_clean : (kind : Kind) (ns : List Name) (i : ℕ) → AreNames ns → list_all is_name (take i ns) ≡ true
     → CleanWords (wire_rules kind) [] [] (codes "in" ∷ take i ns)
@@ -292,25 +271,10 @@ lines_clean kind ns inputs gates outputs sound =
     (wires_clean kind ns inputs gates outputs (drop inputs ns) refl sound)
 
 -- the lines can be written
-names_written : (ns : List Name) → list_all is_name ns ≡ true → list_all is_written ns ≡ true
-names_written [] all = refl
-names_written (n ∷ ns) all =
-    let both = and_both (is_name n) (list_all is_name ns) all in
-    rw (name_written n both.0, names_written ns both.1) refl
-
 plus_written : (ns : List Name) → list_all is_written ns ≡ true
     → list_all is_written_line (plus_lines ns) ≡ true
 plus_written [] all = refl
 plus_written (n ∷ ns) all = rw all refl
-
-pub numbers_written : (ns : List Name) (qs : List ℕ) → AreNames ns → All (λ q. q < length ns) qs
-    → list_all is_written (map (name_at ns) qs) ≡ true
-numbers_written ns [] valid below = refl
-numbers_written ns (q ∷ qs) valid below =
-    let lt : q < length ns = below 0 q (omega arith) in
-    let name = name_written (name_at ns q) (is_name-name_at ns q valid lt) in
-    let rest = numbers_written ns qs valid (λ k d l. below (suc k) d (omega arith)) in
-    rw (name, rest) refl
 
 lines_written : (kind : Kind) (ns : List Name) (inputs : ℕ) (gates : Lines) (outputs : List ℕ)
     → AreSound kind ns inputs gates outputs

@@ -25,7 +25,7 @@ use Rattle.mc_text.specs.Lists.{names_at}
 use Rattle.mc_text.proofs.Behind.{GoesOn, behind_clean}
 use Rattle.mc_text.proofs.Clean.{CleanWords}
 use Rattle.mc_text.proofs.Done.{last_head-more}
-use Rattle.mc_text.proofs.Kept.{numbers-more}
+use Rattle.mc_text.proofs.Kept.{held_more}
 use Rattle.mc_text.proofs.Listed.{ListsOnce-listed}
 use Rattle.mc_text.proofs.Sections.{clean_ends}
 use Rattle.mc_text.proofs.Unbroken.{unbroken, not_false, listed_is, names_push}
@@ -191,11 +191,10 @@ gate_line kind before h ws w g is clean =
           absurd (cc (open_gate kind (head_of h) g, c'));
     }
 
-listed_more : (names more listed : List Name) → AreListed names listed
+listed_under_more : (names more listed : List Name) → AreListed names listed
     → AreListed (names ++ more) listed
-listed_more names more listed h = record {
-  held = (numbers-more names more listed (map (number_in names) listed)
-      (record { held = h.held; numbers_are = refl })).held;
+listed_under_more names more listed h = record {
+  held = (held_more names more listed h.held).0;
   distinct = h.distinct;
 }
 
@@ -251,7 +250,7 @@ wires_line kind grows before h ws w d clean =
       names = rw defines
           (news kind before h [] ws d clean (rw (append-nil names) w.names));
       inputs = rw defines (more_inputs before h ws (is_input (head_of h)) refl w.inputs);
-      listed = rw (defines, outputs) (listed_more names ws listed w.listed);
+      listed = rw (defines, outputs) (listed_under_more names ws listed w.listed);
       gates = rw (defines, gates) (gates_more kind grows names ws (gate_lines kind before) w.gates);
       few = rw gates w.few;
       complete = λ c.

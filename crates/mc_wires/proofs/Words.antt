@@ -12,17 +12,13 @@ use Rattle.mc_text.specs.Judged.{Words, Lines}
 use Rattle.mc_text.specs.Rules.{broken, new_name, listed_name}
 use Rattle.mc_text.specs.Lists.{names_at}
 use Rattle.mc_text.proofs.Kept.{names_at-line}
+use Rattle.mc_text.proofs.NamesHere.{names_here, names_stay}
 use Rattle.mc_text.proofs.Unbroken.{next_none, unbroken, unpassed, not_false}
 use Rattle.mc_wires.specs.Kinds.{Kind, is_defining, is_output, is_gate, may_follow}
 use Rattle.mc_wires.specs.Judge.{head_word, wire_word, wire_lacks, judge_word, judge_end}
-use Rattle.mc_wires.proofs.Lines.{gate_other, names_here}
+use Rattle.mc_wires.proofs.Lines.{gate_other}
 
 -- names of a line, and of the lines with one more
-pub names_none : (test : Option Head → Bool) (before : Lines) (h : List ℕ) (words : Words)
-    → test (head_of h) ≡ false → names_at test before (h ∷ words) ≡ names_at test before []
-names_none test before h words e =
-    names_here test before h words ∙ rw e (append-nil (names_at test before []))
-
 pub names_all : (test : Option Head → Bool) (before : Lines) (h : List ℕ) (words : Words)
     → test (head_of h) ≡ true → names_at test before (h ∷ words) ≡ names_at test before [] ++ words
 names_all test before h words e = names_here test before h words ∙ rw e refl
@@ -32,7 +28,7 @@ pub same_line : (test : Option Head → Bool) (before : Lines) (here : Words)
     → names_at test (before ++ here ∷ []) [] ≡ names_at test before []
 same_line test before [] e = names_at-line test before []
 same_line test before (h ∷ words) e =
-    names_at-line test before (h ∷ words) ∙ names_none test before h words e
+    names_at-line test before (h ∷ words) ∙ names_stay test before h words e
 
 pub more_line : (test : Option Head → Bool) (before : Lines) (h : List ℕ) (words : Words)
     → test (head_of h) ≡ true
@@ -114,7 +110,7 @@ listed_at kind before h done word e =
     listed_word kind (names_at is_defining before (h ∷ done)) (names_at is_output before (h ∷ done))
     (h ∷ done) (head_of h) word e
     ∙ ap (λ names. listed_name names (names_at is_output before (h ∷ done)) word)
-    (names_none is_defining before h done (out_defines (head_of h) e))
+    (names_stay is_defining before h done (out_defines (head_of h) e))
     ∙ ap (λ listed. listed_name (names_at is_defining before []) listed word)
     (names_all is_output before h done e)
 
@@ -140,7 +136,7 @@ listed_ends kind before h done e =
     ∙ ap (λ names. broken ((
       not (list_all (is_held (names_at is_output before (h ∷ done))) names),
       OutputsLack,
-    ) ∷ [])) (names_none is_defining before h done (out_defines (head_of h) e))
+    ) ∷ [])) (names_stay is_defining before h done (out_defines (head_of h) e))
     ∙ ap (λ listed. broken ((
       not (list_all (is_held listed) (names_at is_defining before [])),
       OutputsLack,
@@ -156,7 +152,7 @@ gate_at kind before h done word e =
     (wire_word (names_at is_defining before (h ∷ done)) (names_at is_output before (h ∷ done))
     (head_of h) word) e
     ∙ ap (λ names. kind.judge names (h ∷ done) word)
-    (names_none is_defining before h done (gate_other kind (head_of h) e).defines)
+    (names_stay is_defining before h done (gate_other kind (head_of h) e).defines)
 
 pub gate_ends : (kind : Kind) (before : Lines) (h : List ℕ) (done : Words)
     → is_gate kind (head_of h) ≡ true → judge_end kind before (h ∷ done) ≡ kind.lacks (h ∷ done)
