@@ -12,7 +12,7 @@ use Rattle.std.proofs.lemmas.List.{append-nil, map-append, length-take-le, take-
 use Rattle.std.proofs.lemmas.List.Elements.{filter_map-append}
 use Rattle.std.proofs.lemmas.List.Sums.{sum_by-append, sum_by-cons, list_all-from_AllPass}
 use mathlib.Core.Logic.{inl, inr}
-use Rattle.mc_model.specs.Names.{Name, AreNames, name_eq, is_name}
+use Rattle.mc_model.specs.Names.{Name, AreNames, name_eq, is_held, is_name}
 use Rattle.mc_model.specs.Numbers.{is_member}
 use Rattle.mc_model.specs.Pattern.{Command, Prep, Pattern, measured_by}
 use Rattle.mc_model.specs.Pattern.{measured_order, has_constant}
@@ -207,8 +207,9 @@ outputs_clean constants ns inputs before done listed [] h whole due =
     let list = map (name_at ns) listed in
     let all : take (inputs + prepared done) ns ≡ ns = rw whole (take-length ns) in
     let due' = rw (append-nil listed) at due in
-    let each : list_all (is_settled (measured_in before) list) ns ≡ true =
-    list_all-from_AllPass (is_settled (measured_in before) list) ns (λ q d lt.
+    let settled = is_settled (is_held (measured_in before)) (is_held list) in
+    let each : list_all settled ns ≡ true =
+    list_all-from_AllPass settled ns (λ q d lt.
     let here : get_or ns q d ≡ name_at ns q =
     sym (ap (λ (name : Option Name). unwrap_or name []) (slice_get-get_or ns q d lt)) in
     let held = measured_held ns inputs before done q h (omega (arith, whole, lt)) in
