@@ -42,7 +42,7 @@ use Rattle.mc_text.proofs.NamesHere.{names_stay}
 use Rattle.mc_pattern_text.proofs.Under.{AreUnmarked, IsAt, Opens, correction_at, first_at}
 use Rattle.mc_pattern_text.proofs.Under.{firsts_at, measured_at, onto_mark, role_here, second_at}
 use Rattle.mc_pattern_text.proofs.CleanCommands.{AreThere, AreMembers, record_clean, still_clean}
-use Rattle.mc_pattern_text.proofs.CleanCommands.{signal_members, split_at}
+use Rattle.mc_pattern_text.proofs.CleanCommands.{signal_members, split_name}
 
 -- the words of signals are no marks
 pub signal_unmarked : (ns : List Name) (qs : List ℕ) (b : Bool) → AreNames ns
@@ -238,7 +238,7 @@ module _ (constants : Bool) (ns : List Name) (valid : AreNames ns) (before : Lin
 new_clean : (ns : List Name) (m : ℕ) → AreNames ns → m < length ns
     → new_name (take m ns) (name_at ns m) ≡ None
 new_clean ns m valid lt =
-    let parts = split_at ns m lt in
+    let parts = split_name ns m lt in
     let few = valid.few in
     let whole = ap length parts in
     first_new (take m ns) (name_at ns m) (drop (suc m) ns) (is_name-name_at ns m valid lt)

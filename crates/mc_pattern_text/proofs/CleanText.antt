@@ -13,7 +13,7 @@ use Rattle.std.proofs.lemmas.List.Elements.{filter_map-append}
 use Rattle.std.proofs.lemmas.List.Sums.{sum_by-append, sum_by-cons, list_all-from_AllPass}
 use mathlib.Core.Logic.{inl, inr}
 use Rattle.mc_model.specs.Names.{Name, AreNames, name_eq, is_held, is_name}
-use Rattle.mc_model.specs.Numbers.{is_member}
+use Rattle.mc_model.specs.Numbers.{ListsOnce, is_member}
 use Rattle.mc_model.specs.Pattern.{Command, Prep, Pattern, measured_by}
 use Rattle.mc_model.specs.Pattern.{measured_order, has_constant}
 use Rattle.mc_model.specs.Steps.{is_permitted}
@@ -161,11 +161,6 @@ inputs_clean constants ws (p ∷ ps) named distinct few =
       inputs_clean constants (ws ++ p ∷ []) ps both.1 (rw next distinct) (rw next few),
     )
 
--- the outputs
-record AreDue (ns : List Name) (done : List Command) (qs : List ℕ) : Type 0 where
-  below : All (λ q. q < length ns) qs
-  once : (q : ℕ) → q < length ns → count_by (nat_eq q) qs ≡ cond (not (measured done q)) 1 0
-
 -- a qubit that is listed once is not measured, and not among those before it
 once_there : (m : Bool) (q : ℕ) (done qs : List ℕ)
     → count_by (nat_eq q) (done ++ q ∷ qs) ≡ cond (not m) 1 0
@@ -200,7 +195,7 @@ settled_by false s due = due refl
 
 outputs_clean : (constants : Bool) (ns : List Name) (inputs : ℕ) (before : Lines)
     (done : List Command) (listed qs : List ℕ) → AreThere ns inputs before done → inputs + prepared done ≡ length ns
-    → AreDue ns done (listed ++ qs)
+    → ListsOnce (length ns) (λ q. not (measured done q)) (listed ++ qs)
     → CleanWords (rules_with constants) before (codes "out" ∷ map (name_at ns) listed)
     (map (name_at ns) qs)
 outputs_clean constants ns inputs before done listed [] h whole due =
@@ -306,7 +301,7 @@ pattern_clean half p h permitted =
     more before' out end (
       rw takes refl,
       outputs_clean constants ns p.inputs before' p.commands [] p.outputs there (sym qubits)
-          (record { below = h.valid.outputs.below; once = h.valid.outputs.once }),
+          h.valid.outputs,
     )
     refl
     (last (before' ++ out ∷ []) (codes "end" ∷ []) (rw follows refl, refl) refl)))

@@ -1,7 +1,7 @@
 -- Terms with nothing against them: measured qubits, and constants where those may stand.
 use Rattle.std.proofs.Common.{◌≡◌, ℕ, Bool, true, false, not, ◌&&◌, List, [], ◌∷◌, ◌++◌}
 use Rattle.std.proofs.Common.{Option, None, length, map, refl, sym, ap, ◌∙◌, nat_eq, nat_lt}
-use Rattle.std.proofs.Common.{inl, inr, subst}
+use Rattle.std.proofs.Common.{inl, inr, subst, if◌then◌else◌}
 use Rattle.std.specs.List.{list_all, list_any}
 use Rattle.std.proofs.lemmas.Bool.{and_parts, cases_Bool, eqb-true, or_cases}
 use Rattle.std.proofs.lemmas.List.Elements.{filter-append}
@@ -23,7 +23,7 @@ use Rattle.mc_text.proofs.Clean.{CleanWords}
 use Rattle.mc_text.proofs.Going.{point_of-more}
 use Rattle.mc_text.proofs.Places.{words_by-last}
 use Rattle.mc_text.specs.declared.fault.Fault.TheVariants.{ListedTwice, NotMeasured}
-use Rattle.mc_text.specs.Rules.{number_in, broken, listed_name}
+use Rattle.mc_text.specs.Rules.{number_in}
 use Rattle.mc_text.specs.Rules.{known_name}
 use Rattle.mc_text.proofs.Unbroken.{known_is, next_none, not_false, unbroken}
 use Rattle.mc_text.proofs.Numbers.{place-held}
@@ -40,70 +40,69 @@ use Rattle.mc_pattern_text.proofs.Marked.{marked-name}
 use Rattle.mc_text.proofs.NamesHere.{names_stay}
 use Rattle.mc_pattern_text.proofs.Sets.{signal_stays}
 
--- names that are known and measured, and the constant where it may stand
+-- a name that is known and measured, or the constant where it may stand
+abbrev is_good : Bool → List (List ℕ) → List (List ℕ) → List ℕ → Bool
+is_good constants names measured word =
+    if is_one word then constants else is_held names word && is_held measured word
+
 record AreGood (constants : Bool) (names measured : List (List ℕ)) (words : Words) : Type 0 where
   known : list_all (is_held names) (named words) ≡ true
   early : list_all (is_held measured) (named words) ≡ true
   plain : constants ≡ false → has_one words ≡ false
 
-no_terms : (constants : Bool) (names measured : List (List ℕ)) → AreGood constants names measured []
-no_terms constants names measured = record { known = refl; early = refl; plain = λ none. refl }
-
-both_good : (constants : Bool) (names measured : List (List ℕ)) (xs ys : Words)
-    → AreGood constants names measured xs → AreGood constants names measured ys
-    → AreGood constants names measured (xs ++ ys)
-both_good constants names measured xs ys one more =
-    let all = filter-append (λ word. not (is_one word)) xs ys in
-    record {
-      known = rw all
-          (list_all-append (is_held names) (named xs) (named ys) ∙ rw (one.known, more.known) refl);
-      early = rw all
-          (list_all-append (is_held measured) (named xs) (named ys) ∙ rw (one.early, more.early) refl);
-      plain = λ none. list_any-append is_one xs ys ∙ rw (one.plain none, more.plain none) refl;
-    }
-
-member_good : (constants : Bool) (names measured : List (List ℕ)) (terms : Terms) (word : List ℕ)
-    → member_name names (is_held measured) terms word ≡ None
-    → AreGood constants names measured (word ∷ [])
-member_good constants names measured terms word clean =
-    let both = next_none (known_name names word) _ clean in
-    let known = known_is names word both.0 in
-    let late = not (is_held measured word) in
-    let apart = unbroken (terms.has word) ListedTwice ((late, NotMeasured) ∷ []) both.1 in
-    let early = not_false (is_held measured word) (unbroken late NotMeasured [] apart.1).0 in
-    let no_one = name_no_one word known.0 in
-    record {
-      known = rw (no_one, known.1) refl;
-      early = rw (no_one, early) refl;
-      plain = λ none. rw no_one refl;
-    }
+are_good : (constants : Bool) (names measured : List (List ℕ)) (words : Words)
+    → list_all (is_good constants names measured) words ≡ true
+    → AreGood constants names measured words
+are_good constants names measured [] all = record { known = refl; early = refl; plain = λ e. refl }
+are_good constants names measured (w ∷ words) all =
+    let both = and_parts (is_good constants names measured w)
+    (list_all (is_good constants names measured) words) all in
+    let rest = are_good constants names measured words both.1 in
+    elim (cases_Bool (is_one w)) [
+      | inl one ↦
+          let may : constants ≡ true = rw one at both.0 in
+          record {
+            known = rw one rest.known;
+            early = rw one rest.early;
+            plain = λ none. absurd (cc (may, none));
+          }
+      | inr name ↦
+          let parts = and_parts (is_held names w) (is_held measured w) (rw name at both.0) in
+          record {
+            known = rw (name, parts.0) rest.known;
+            early = rw (name, parts.1) rest.early;
+            plain = λ none. rw name (rest.plain none);
+          }
+    ]
 
 term_good : (constants : Bool) (names measured : List (List ℕ)) (terms : Terms) (word : List ℕ)
     → term_word constants names (is_held measured) terms word ≡ None
-    → AreGood constants names measured (word ∷ [])
+    → is_good constants names measured word ≡ true
 term_good constants names measured terms word clean = by_tests constants (is_one word) refl refl
   where
-    by_member : (constants && is_one word) ≡ false
-        → AreGood constants names measured (word ∷ [])
-    by_member e = member_good constants names measured terms word (rw e at clean)
+    by_member : (constants && is_one word) ≡ false → is_good constants names measured word ≡ true
+    by_member e =
+        let clean' : member_name names (is_held measured) terms word ≡ None = rw e at clean in
+        let both = next_none (known_name names word) _ clean' in
+        let known = known_is names word both.0 in
+        let late = not (is_held measured word) in
+        let apart = unbroken (terms.has word) ListedTwice ((late, NotMeasured) ∷ []) both.1 in
+        let early = not_false (is_held measured word) (unbroken late NotMeasured [] apart.1).0 in
+        rw (name_no_one word known.0, known.1, early) refl
 
     by_tests : (c t : Bool) → constants ≡ c → is_one word ≡ t
-        → AreGood constants names measured (word ∷ [])
-    by_tests true true e f = record {
-      known = rw f refl;
-      early = rw f refl;
-      plain = λ none. absurd (cc (e, none));
-    }
+        → is_good constants names measured word ≡ true
+    by_tests true true e f = rw (e, f) refl
     by_tests true false e f = by_member (rw (e, f) refl)
     by_tests false t e f = by_member (rw e refl)
 
 -- what a word adds to the signals of its line
 module _ (constants : Bool) (before : Lines) where
-  abbrev Good : Words → Type 0
-  Good words = AreGood constants (names_at is_defining before []) (measured_in before) words
+  abbrev good : List ℕ → Bool
+  good = is_good constants (names_at is_defining before []) (measured_in before)
 
-  none_good : Good []
-  none_good = no_terms constants (names_at is_defining before []) (measured_in before)
+  abbrev Good : Words → Type 0
+  Good words = list_all good words ≡ true
 
   abbrev Judged : Words → Option Head → Role → List ℕ → Type 0
   Judged here last r w =
@@ -114,21 +113,22 @@ module _ (constants : Bool) (before : Lines) where
       → term_word constants (names_at is_defining before []) (is_held (measured_in before)) terms w
       ≡ None → Good (w ∷ [])
   one_good terms w clean =
-      term_good constants (names_at is_defining before []) (measured_in before) terms w clean
+      let is = term_good constants (names_at is_defining before []) (measured_in before) terms w clean in
+      rw is refl
 
   first_good : (here : Words) (last : Option Head) (r : Role) (w : List ℕ) → Judged here last r w
       → Good (first_of r w)
   first_good here last first_term w clean = elim (cases_Bool (is_second (mark_of w))) [
-    | inl e ↦ rw e none_good
+    | inl e ↦ rw e refl
     | inr e ↦ rw e (one_good (terms_in (first_signal here)) w (rw e at clean))
   ]
   first_good here last term w clean = one_good (terms_in (first_signal here)) w clean
-  first_good here last _ w clean = none_good
+  first_good here last _ w clean = refl
 
   second_good : (here : Words) (last : Option Head) (r : Role) (w : List ℕ) → Judged here last r w
       → Good (second_of r w)
   second_good here last second_term w clean = one_good (terms_in (second_signal here)) w clean
-  second_good here last _ w clean = none_good
+  second_good here last _ w clean = refl
 
   -- and those of a line
   words_good : (adds : Role → List ℕ → Words) (h : List ℕ) (xs ws : Words)
@@ -136,14 +136,15 @@ module _ (constants : Bool) (before : Lines) where
       → Good (adds r w))
       → is_defining (head_of h) ≡ false → CleanWords (rules_with constants) before (h ∷ xs) ws
       → Good (words_by (added_by adds) (point_of before (h ∷ xs)) ws)
-  words_good adds h xs [] good gate clean = none_good
-  words_good adds h xs (w ∷ ws) good gate clean =
+  words_good adds h xs [] judged gate clean = refl
+  words_good adds h xs (w ∷ ws) judged gate clean =
       let p = point_of before (h ∷ xs) in
-      let one = good (h ∷ xs) p.last (role_of p) w (rw (names_stay is_defining before h xs gate) at clean.0) in
+      let one = judged (h ∷ xs) p.last (role_of p) w
+      (rw (names_stay is_defining before h xs gate) at clean.0) in
       let rest = subst (λ (q : Point). Good (words_by (added_by adds) q ws))
-      (point_of-more before (h ∷ xs) w) (words_good adds h (xs ++ w ∷ []) ws good gate clean.1) in
-      both_good constants (names_at is_defining before []) (measured_in before) (adds (role_of p) w)
-      (words_by (added_by adds) (next_point p w) ws) one rest
+      (point_of-more before (h ∷ xs) w) (words_good adds h (xs ++ w ∷ []) ws judged gate clean.1) in
+      list_all-append good (adds (role_of p) w) (words_by (added_by adds) (next_point p w) ws)
+      ∙ rw (one, rest) refl
 
 -- the members of a signal of such terms are measured
 members_done : (names measured : List (List ℕ)) (marks : Bits) (list : List (List ℕ)) (q : ℕ)
@@ -173,9 +174,10 @@ pub record AreTerms (constants : Bool) (names : List (List ℕ)) (marks : Bits) 
   pub rising : IsRising (signal_in names words).members
 
 terms_are : (constants : Bool) (names measured : List (List ℕ)) (marks : Bits) (words : Words)
-    → AreMarked names measured marks → AreGood constants names measured words
+    → AreMarked names measured marks → list_all (is_good constants names measured) words ≡ true
     → AreTerms constants names marks words
-terms_are constants names measured marks words are good =
+terms_are constants names measured marks words are all =
+    let good = are_good constants names measured words all in
     let p = is_member (map (number_in names) (named words)) in
     record {
       stays = λ more. signal_stays names more words good.known;

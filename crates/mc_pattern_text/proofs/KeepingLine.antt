@@ -13,18 +13,17 @@ use Rattle.mc_text.specs.declared.point.Point.{Point}
 use Rattle.mc_text.specs.Heads.{head_of}
 use Rattle.mc_text.specs.Points.{point_of}
 use Rattle.mc_text.specs.Judged.{Words, Lines}
-use Rattle.mc_text.specs.Lists.{names_at}
 use Rattle.mc_text.proofs.Going.{head_at}
 use Rattle.mc_text.proofs.Kept.{names_at-line, operands_at-some, operands_at-none}
 use Rattle.mc_pattern.specs.Commands.{plain_command}
 use Rattle.mc_pattern_text.specs.declared.reader.Reader.{Reader}
 use Rattle.mc_pattern_text.specs.declared.reader.Operands.{Operands}
-use Rattle.mc_pattern_text.specs.Roles.{role_of, is_defining, is_input}
+use Rattle.mc_pattern_text.specs.Roles.{is_defining, is_input}
 use Rattle.mc_pattern_text.specs.Roles.{is_measuring, is_output}
 use Rattle.mc_pattern_text.specs.Value.{Spelled, spelled_command, spelled_commands, command_by}
-use Rattle.mc_pattern_text.specs.Judge.{measured_in, lacks_by, rules_with}
+use Rattle.mc_pattern_text.specs.Judge.{measured_in}
 use Rattle.mc_pattern_text.specs.Kept.{IsKept, AreMarked, IsSpelled, AreOperands, Ends}
-use Rattle.mc_pattern_text.specs.Kept.{command_with, known_of}
+use Rattle.mc_pattern_text.specs.Kept.{command_with}
 use Rattle.mc_text.proofs.Members.{place-below}
 use Rattle.mc_rows.proofs.Sets.{no_members}
 use Rattle.mc_pattern_text.proofs.Keeping.{marked-word}

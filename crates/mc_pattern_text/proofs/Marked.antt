@@ -1,18 +1,13 @@
 -- Names and the marks at their numbers.
-use Rattle.std.proofs.Common.{Bool, ◌≡◌, ℕ, ◌<◌, List, [], ◌∷◌, ◌++◌, ◌||◌, Option}
-use Rattle.std.proofs.Common.{Some, None, length, refl, sym, ◌∙◌, arith}
-use Rattle.std.proofs.Common.{length-append, get_or}
+use Rattle.std.proofs.Common.{◌≡◌, ℕ, List, [], ◌∷◌, ◌++◌}
+use Rattle.std.proofs.Common.{Some, length, ◌∙◌, arith}
+use Rattle.std.proofs.Common.{length-append}
 use Rattle.std.specs.List.{IsDistinct}
 use Rattle.std.proofs.Math.Seq.{get_or-append_seam}
 use Rattle.mc_model.specs.Bits.{Bits}
-use Rattle.mc_model.specs.Numbers.{is_member}
 use Rattle.mc_model.specs.Names.{name_eq, is_held, place_of}
-use Rattle.mc_text.specs.declared.fault.Fault.TheVariants.{Measured, SameOperand, ListedTwice}
-use Rattle.mc_text.specs.Judged.{fault}
-use Rattle.mc_text.specs.Rules.{broken, known_name, AreNumbers}
-use Rattle.mc_text.proofs.Numbers.{place-same}
 use Rattle.mc_text.proofs.Listed.{place_at}
-use Rattle.mc_text.proofs.Members.{name_eq-same, member-listed, numbered-name}
+use Rattle.mc_text.proofs.Members.{member-listed}
 use Rattle.mc_pattern_text.specs.Kept.{AreMarked}
 
 -- a name stands in a list exactly where its number has a mark

@@ -1,22 +1,16 @@
 -- The terms of a signal: its members and its constant, and the words that spell them.
-use Rattle.std.proofs.Common.{◌≡◌, ℕ, suc, ◌<◌, true, false, List, [], ◌∷◌, Some, None, length}
-use Rattle.std.proofs.Common.{not, Bool, refl, sym, ap, ◌∙◌, arith, slice_get, ne_eqb}
+use Rattle.std.proofs.Common.{◌≡◌, ℕ, suc, ◌<◌, true, false, List, [], ◌∷◌, Some, length}
+use Rattle.std.proofs.Common.{refl, ap, ◌∙◌, arith, slice_get, ne_eqb}
 use Rattle.std.proofs.lemmas.Option.{slice_get_within, get_or_from_slice_get}
-use Rattle.mc_model.specs.Bits.{Bits}
 use Rattle.mc_model.specs.Numbers.{is_member}
-use Rattle.mc_model.specs.Names.{is_name, is_held, place_of}
+use Rattle.mc_model.specs.Names.{is_name, place_of}
 use Rattle.mc_model.specs.Signals.{Signal, IsRising, signal_of, signal_sum, one_signal}
 use Rattle.mc_model.specs.Signals.{toggled, toggled_all}
 use Rattle.mc_signal.proofs.Members.{toggled_all-single}
 use Rattle.mc_signal.proofs.Rising.{rising_at}
-use Rattle.mc_text.specs.declared.fault.Fault.TheVariants.{ListedTwice, NotMeasured}
-use Rattle.mc_text.specs.Judged.{fault, Words}
-use Rattle.mc_text.specs.Rules.{broken, known_name, or_next}
-use Rattle.mc_rows.specs.Rows.{is_one, named}
-use Rattle.mc_rows.proofs.Sets.{has-listed, joins_one, joins_name}
-use Rattle.mc_pattern_text.specs.Judge.{member_name, term_word}
-use Rattle.mc_pattern_text.specs.Kept.{AreMarked, IsSpelled, Joins}
-use Rattle.mc_pattern_text.proofs.Marked.{marked-name}
+use Rattle.mc_rows.specs.Rows.{is_one}
+use Rattle.mc_rows.proofs.Sets.{joins_one, joins_name}
+use Rattle.mc_pattern_text.specs.Kept.{Joins}
 
 -- what a term adds
 pub joins_member : (names : List (List ℕ)) (s s' : Signal) (word : List ℕ) (q : ℕ)

@@ -1,11 +1,11 @@
 -- The rules and limits of a pattern's section.
-use Rattle.std.specs.Prelude.{ℕ, List, [], ◌∷◌, Bool, true, false, not, ◌&&◌, ◌||◌}
+use Rattle.std.specs.Prelude.{ℕ, List, [], ◌∷◌, Bool, true, not, ◌&&◌, ◌||◌}
 use Rattle.std.specs.Prelude.{◌==◌}
-use Rattle.std.specs.Prelude.{nat_le, length, if◌then◌else◌, Option, None, Some, suc}
+use Rattle.std.specs.Prelude.{nat_le, length, if◌then◌else◌, Option, None, suc}
 use Rattle.std.specs.Prelude.{option_to_list}
 use Rattle.std.specs.List.{list_all}
 use Rattle.mc_model.specs.Limits.{most_commands}
-use Rattle.mc_model.specs.Names.{name_eq, is_held}
+use Rattle.mc_model.specs.Names.{is_held}
 use Rattle.mc_text.specs.declared.head.Head.{Head}
 use Rattle.mc_text.specs.declared.fault.Fault.TheVariants.{NotFixed, LineEnds, Surplus, Measured}
 use Rattle.mc_text.specs.declared.fault.Fault.TheVariants.{SameOperand, NotMeasured, ListedTwice}

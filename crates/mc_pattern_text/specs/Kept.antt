@@ -1,5 +1,5 @@
 -- What a reader keeps of a pattern's lines, and what a word and the end of a line do to it.
-use Rattle.std.specs.Prelude.{◌≡◌, ℕ, ◌+◌, ◌<◌, List, [], ◌∷◌, ◌++◌, Bool, true}
+use Rattle.std.specs.Prelude.{◌≡◌, ℕ, ◌+◌, ◌<◌, List, [], ◌∷◌, ◌++◌, true}
 use Rattle.std.specs.Prelude.{false, map, length, nat_eq}
 use Rattle.std.specs.Prelude.{Option, None, Some, option_to_list}
 use Rattle.std.specs.List.{list_all}

@@ -1,4 +1,4 @@
-use Rattle.std.proofs.Common.{refl, sym, ◌∙◌}
+use Rattle.std.proofs.Common.{sym, ◌∙◌}
 use Rattle.mc_pattern_text.proofs.Terms.{joins_member}
 use Rattle.mc_pattern_text.proofs.operands.take_member.Goals as goal
 
