@@ -3,11 +3,11 @@ use Rattle.std.proofs.Common.{◌≡◌, ℕ, zero, suc, ◌+◌, ◌<◌, ◌�
 use Rattle.std.proofs.Common.{[], ◌∷◌, ◌++◌, length, map, take, drop, refl, sym, ap, ◌∙◌}
 use Rattle.std.proofs.Common.{arith, nat_eq, nat_le, Option, None}
 use Rattle.std.specs.List.{IsDistinct}
-use Rattle.std.proofs.Math.Seq.{take-suc}
+use Rattle.std.proofs.Math.Seq.{take-suc, split_at}
 use Rattle.std.proofs.lemmas.Bool.{eqb-true}
 use Rattle.std.proofs.lemmas.Option.{unwrap_or-slice_get}
 use Rattle.std.proofs.lemmas.Bool.Decides.{nat_tests}
-use Rattle.std.proofs.lemmas.List.{take-append-drop, length-take-le}
+use Rattle.std.proofs.lemmas.List.{get_or-take, take-append-drop, length-take-le}
 use Rattle.mc_model.specs.Names.{Name, AreNames, name_eq, is_held}
 use Rattle.mc_model.specs.Numbers.{is_member}
 use Rattle.mc_model.specs.Pattern.{Command, Meas, measured_order}
@@ -30,17 +30,9 @@ use Rattle.mc_text.proofs.Members.{member-listed}
 use Rattle.mc_rows.proofs.Within.{all_members}
 
 -- the first names of a list
-pub front_at : (ns : List Name) (m q : ℕ) → q < m → name_at (take m ns) q ≡ name_at ns q
-front_at ns zero q lt = absurd (omega arith)
-front_at [] (suc m) q lt = refl
-front_at (n ∷ ns) (suc m) zero lt = refl
-front_at (n ∷ ns) (suc m) (suc q) lt = front_at ns m q (omega arith)
-
-pub split_at : (ns : List Name) (m : ℕ) → m < length ns
+pub split_name : (ns : List Name) (m : ℕ) → m < length ns
     → ns ≡ take m ns ++ name_at ns m ∷ drop (suc m) ns
-split_at [] m lt = absurd (omega arith)
-split_at (n ∷ ns) zero lt = refl
-split_at (n ∷ ns) (suc m) lt = ap (λ (xs : List Name). n ∷ xs) (split_at ns m (omega arith))
+split_name ns m lt = rw (unwrap_or-slice_get ns m []) (split_at ns m [] lt)
 
 pub front_more : (ns : List Name) (m : ℕ) → m < length ns
     → take (suc m) ns ≡ take m ns ++ name_at ns m ∷ []
@@ -54,7 +46,8 @@ known_front ns m q valid within lt =
     let distinct = distinct_part (take m ns) (drop m ns)
     (rw (take-append-drop m ns) valid.distinct) in
     let held : is_held (take m ns) (name_at ns q) ≡ true =
-    rw (← front_at ns m q lt) (held-name_at (take m ns) q distinct (omega arith)) in
+    rw (unwrap_or-slice_get ns q [], ← get_or-take m ns q [] lt, ← unwrap_or-slice_get (take m ns) q [])
+    (held-name_at (take m ns) q distinct (omega arith)) in
     let named = is_name-name_at ns q valid (omega arith) in
     rw (named, held) refl
 
@@ -127,7 +120,8 @@ module _ (ns : List Name) (inputs : ℕ) (before : Lines) (done : List Command) 
       ∙ sym (measured_listed done q))
 
   pub still_clean : (q : ℕ) → AreThere ns inputs before done → IsLive inputs done q
-      → still_name (names_at is_defining before []) (measured_in before) (name_at ns q) ≡ None
+      → still_name (names_at is_defining before []) (is_held (measured_in before)) (name_at ns q)
+      ≡ None
   still_clean q h live =
       let known = known_clean q h live.is_there in
       let held = measured_held q h live.is_there ∙ live.is_not_measured in

@@ -12,8 +12,8 @@ use Rattle.std.proofs.lemmas.List.{append-nil, map-append, length-take-le, take-
 use Rattle.std.proofs.lemmas.List.Elements.{filter_map-append}
 use Rattle.std.proofs.lemmas.List.Sums.{sum_by-append, sum_by-cons, list_all-from_AllPass}
 use mathlib.Core.Logic.{inl, inr}
-use Rattle.mc_model.specs.Names.{Name, AreNames, name_eq, is_name}
-use Rattle.mc_model.specs.Numbers.{is_member}
+use Rattle.mc_model.specs.Names.{Name, AreNames, name_eq, is_held, is_name}
+use Rattle.mc_model.specs.Numbers.{ListsOnce, is_member}
 use Rattle.mc_model.specs.Pattern.{Command, Prep, Pattern, measured_by}
 use Rattle.mc_model.specs.Pattern.{measured_order, has_constant}
 use Rattle.mc_model.specs.Steps.{is_permitted}
@@ -161,11 +161,6 @@ inputs_clean constants ws (p ∷ ps) named distinct few =
       inputs_clean constants (ws ++ p ∷ []) ps both.1 (rw next distinct) (rw next few),
     )
 
--- the outputs
-record AreDue (ns : List Name) (done : List Command) (qs : List ℕ) : Type 0 where
-  below : All (λ q. q < length ns) qs
-  once : (q : ℕ) → q < length ns → count_by (nat_eq q) qs ≡ cond (not (measured done q)) 1 0
-
 -- a qubit that is listed once is not measured, and not among those before it
 once_there : (m : Bool) (q : ℕ) (done qs : List ℕ)
     → count_by (nat_eq q) (done ++ q ∷ qs) ≡ cond (not m) 1 0
@@ -200,15 +195,16 @@ settled_by false s due = due refl
 
 outputs_clean : (constants : Bool) (ns : List Name) (inputs : ℕ) (before : Lines)
     (done : List Command) (listed qs : List ℕ) → AreThere ns inputs before done → inputs + prepared done ≡ length ns
-    → AreDue ns done (listed ++ qs)
+    → ListsOnce (length ns) (λ q. not (measured done q)) (listed ++ qs)
     → CleanWords (rules_with constants) before (codes "out" ∷ map (name_at ns) listed)
     (map (name_at ns) qs)
 outputs_clean constants ns inputs before done listed [] h whole due =
     let list = map (name_at ns) listed in
     let all : take (inputs + prepared done) ns ≡ ns = rw whole (take-length ns) in
     let due' = rw (append-nil listed) at due in
-    let each : list_all (is_settled (measured_in before) list) ns ≡ true =
-    list_all-from_AllPass (is_settled (measured_in before) list) ns (λ q d lt.
+    let settled = is_settled (is_held (measured_in before)) (is_held list) in
+    let each : list_all settled ns ≡ true =
+    list_all-from_AllPass settled ns (λ q d lt.
     let here : get_or ns q d ≡ name_at ns q =
     sym (ap (λ (name : Option Name). unwrap_or name []) (slice_get-get_or ns q d lt)) in
     let held = measured_held ns inputs before done q h (omega (arith, whole, lt)) in
@@ -305,7 +301,7 @@ pattern_clean half p h permitted =
     more before' out end (
       rw takes refl,
       outputs_clean constants ns p.inputs before' p.commands [] p.outputs there (sym qubits)
-          (record { below = h.valid.outputs.below; once = h.valid.outputs.once }),
+          h.valid.outputs,
     )
     refl
     (last (before' ++ out ∷ []) (codes "end" ∷ []) (rw follows refl, refl) refl)))

@@ -1,67 +1,56 @@
 -- Every qubit that a command of a valid pattern names has a name.
-use Rattle.std.proofs.Common.{◌≡◌, ℕ, ◌+◌, ◌<◌, ◌≤◌, true, List, [], ◌∷◌, ◌++◌, refl, sym}
+use Rattle.std.proofs.Common.{◌≡◌, ℕ, ◌+◌, ◌<◌, ◌≤◌, true, false, List, [], ◌∷◌, ◌++◌, refl, sym}
 use Rattle.std.proofs.Common.{◌∙◌, ap}
 use Rattle.std.proofs.Common.{append_assoc, arith, inl, inr, length}
 use Rattle.std.specs.List.{AllByRecursion}
 use Rattle.std.specs.Prelude.{nat_eq, All}
-use Rattle.std.proofs.lemmas.Bool.{eqb-true, cases_Bool}
+use Rattle.std.proofs.lemmas.Bool.{eqb-true, or_cases}
+use Rattle.std.proofs.lemmas.List.{append-nil}
 use Rattle.std.proofs.lemmas.List.Elements.{All-from_recursion}
 use Rattle.mc_model.specs.Signals.{Signal}
 use Rattle.mc_model.specs.Pattern.{Command, Prep, Ent, Meas, FixX, FixZ, Pattern}
-use Rattle.mc_model.specs.Valid.{AllDone, IsValid, IsValidPattern, SignalFits, measured, prepared}
-use Rattle.mc_model.proofs.ValidLemmas.{prepared-append, moved_on}
+use Rattle.mc_model.specs.Valid.{AllDone, FitsBehind, IsValid, IsValidPattern, SignalFits}
+use Rattle.mc_model.specs.Valid.{measured, prepared}
+use Rattle.mc_model.proofs.ValidLemmas.{measured-append, prepared-append, moved_on}
 use Rattle.mc_pattern_text.specs.Written.{IsNamed, AreNamed}
 
--- the place at which a qubit is measured
-record MeasuredAt (cs : List Command) (q : ℕ) : Type 0 where
-  before : List Command
-  angle : ℕ
-  s : Signal
-  t : Signal
-  behind : List Command
-  place : cs ≡ before ++ (Meas q angle s t ∷ behind)
+-- each qubit that is measured is there
+abbrev Seen : ℕ → List Command → Type 0
+Seen inputs cs = (q : ℕ) → measured cs q ≡ true → q < inputs + prepared cs
 
-one_on : (c : Command) (cs : List Command) (q : ℕ) → MeasuredAt cs q → MeasuredAt (c ∷ cs) q
-one_on c cs q m = record {
-  before = c ∷ m.before;
-  angle = m.angle;
-  s = m.s;
-  t = m.t;
-  behind = m.behind;
-  place = ap (λ (xs : List Command). c ∷ xs) m.place;
-}
-
-measured_at : (cs : List Command) (q : ℕ) → measured cs q ≡ true → MeasuredAt cs q
+one_there : (inputs : ℕ) (before : List Command) (c : Command) (q : ℕ) →
+    FitsBehind inputs before c → measured (c ∷ []) q ≡ true → q < inputs + prepared before
 unfolding measured
-measured_at [] q m = absurd (cc)
-measured_at (Prep r ∷ cs) q m = one_on (Prep r) cs q (measured_at cs q m)
-measured_at (Ent r u ∷ cs) q m = one_on (Ent r u) cs q (measured_at cs q m)
-measured_at (FixX r s ∷ cs) q m = one_on (FixX r s) cs q (measured_at cs q m)
-measured_at (FixZ r s ∷ cs) q m = one_on (FixZ r s) cs q (measured_at cs q m)
-measured_at (Meas r a s t ∷ cs) q m = elim (cases_Bool (nat_eq q r)) [
-  | inl e ↦ record {
-    before = [];
-    angle = a;
-    s = s;
-    t = t;
-    behind = cs;
-    place = ap (λ (k : ℕ). Meas k a s t ∷ cs) (sym (eqb-true q r e));
-  }
-  | inr e ↦ one_on (Meas r a s t) cs q (measured_at cs q (rw e at m))
+one_there inputs before (Meas r a s t) q fits m = elim (or_cases (nat_eq q r) false m) [
+  | inl e ↦ let same = eqb-true q r e in let lt = fits.0.is_there in omega arith
+  | inr none ↦ absurd (cc none)
 ]
+one_there inputs before _ q fits m = absurd (cc m)
 
--- a measured qubit is one of those that are there
+seen_more : (inputs : ℕ) (before : List Command) (c : Command) → FitsBehind inputs before c →
+    Seen inputs before → Seen inputs (before ++ (c ∷ []))
+seen_more inputs before c fits seen q m =
+    let more = prepared-append before (c ∷ []) in
+    elim (or_cases (measured before q) (measured (c ∷ []) q)
+    (sym (measured-append before (c ∷ []) q) ∙ m)) [
+      | inl early ↦ let lt = seen q early in omega arith
+      | inr here ↦ let lt = one_there inputs before c q fits here in omega arith
+    ]
+
+seen_all : (inputs : ℕ) (done cs behind : List Command) → IsValid inputs ((done ++ cs) ++ behind) →
+    Seen inputs done → Seen inputs (done ++ cs)
+seen_all inputs done [] behind v seen = rw (append-nil done) seen
+seen_all inputs done (c ∷ cs) behind v seen =
+    let next = append_assoc done (c ∷ []) cs in
+    let fits = v.at done c (cs ++ behind) (append_assoc done (c ∷ cs) behind) in
+    rw (← next)
+    (seen_all inputs (done ++ (c ∷ [])) cs behind (rw next v) (seen_more inputs done c fits seen))
+
 pub measured_there : (inputs : ℕ) (before behind : List Command) (q : ℕ) →
     IsValid inputs (before ++ behind) → measured before q ≡ true → q < inputs + prepared before
+unfolding measured
 measured_there inputs before behind q v m =
-    let at = measured_at before q m in
-    let c : Command = Meas q at.angle at.s at.t in
-    let place : before ++ behind ≡ at.before ++ (c ∷ (at.behind ++ behind)) =
-    ap (λ (xs : List Command). xs ++ behind) at.place
-    ∙ append_assoc at.before (c ∷ at.behind) behind in
-    let live = (v.at at.before c (at.behind ++ behind) place).0.is_there in
-    let e = ap prepared at.place ∙ prepared-append at.before (c ∷ at.behind) in
-    omega arith
+    seen_all inputs [] before behind v (λ k none. absurd (cc none)) q m
 
 members_there : (inputs n : ℕ) (before behind : List Command) (qs : List ℕ) →
     IsValid inputs (before ++ behind) → inputs + prepared before ≤ n →

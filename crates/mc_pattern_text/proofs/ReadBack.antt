@@ -1,7 +1,7 @@
 -- The canonical text of a pattern is read without a fault, as that pattern.
-use Rattle.std.proofs.Common.{◌≡◌, ℕ, ◌+◌, ◌≤◌, Bool, true, false, List, []}
+use Rattle.std.proofs.Common.{◌≡◌, ℕ, ◌+◌, ◌≤◌, Bool, true, List, []}
 use Rattle.std.proofs.Common.{◌∷◌, ◌++◌, length, map, take, codes, refl, sym, ap, ap₂, ◌∙◌}
-use Rattle.std.proofs.Common.{append_assoc, arith, Option, Some, None, IsTrue, if◌then◌else◌}
+use Rattle.std.proofs.Common.{append_assoc, arith, Option, Some, None, IsTrue}
 use Rattle.std.specs.Option.{option_map}
 use Rattle.std.specs.Fmt.{decimal}
 use Rattle.std.specs.List.{filter_map, flat_map, list_all, list_any}
@@ -24,9 +24,6 @@ use Rattle.mc_model.proofs.ValidLemmas.{prepared-append}
 use Rattle.mc_pattern.specs.Patterns.{IsPattern}
 use Rattle.mc_pattern.specs.Typed.{IsTyped, AllTyped}
 use Rattle.mc_text.specs.declared.head.Head.{Head}
-use Rattle.mc_text.specs.declared.point.Mark.{Mark}
-use Rattle.mc_text.specs.declared.point.Mark.TheVariants.{S, T}
-use Rattle.mc_text.specs.Points.{mark_of}
 use Rattle.mc_text.specs.Headers.{header_words}
 use Rattle.mc_text.specs.Judged.{Words, Lines, words_of, section_lines}
 use Rattle.mc_text.specs.Lists.{names_in, names_at}
@@ -40,8 +37,7 @@ use Rattle.mc_text.proofs.HeadersBack.{header_line, known_version, permitted_hal
 use Rattle.mc_text.proofs.HeadersWritten.{header_written}
 use Rattle.mc_text.proofs.Written.{is_written, is_written_line}
 use Rattle.mc_pattern_text.specs.Roles.{is_defining, is_input, is_output}
-use Rattle.mc_pattern_text.specs.Roles.{Role, opening, first_term, second_term, role_behind}
-use Rattle.mc_pattern_text.specs.Value.{first_of, second_of, first_signal, second_signal, signal_in}
+use Rattle.mc_pattern_text.specs.Value.{first_signal, second_signal, signal_in}
 use Rattle.mc_pattern_text.specs.Value.{Spelled, spelled_m}
 use Rattle.mc_pattern_text.specs.Value.{spelled_command, spelled_commands, command_by, pattern_of}
 use Rattle.mc_pattern_text.specs.Judge.{pattern_rules}
@@ -52,10 +48,8 @@ use Rattle.mc_pattern_text.specs.Canonical.{behind_header}
 use Rattle.mc_pattern_text.proofs.NamedCommands.{pattern_named}
 use Rattle.mc_pattern_text.proofs.NamedSignals.{words_back}
 use Rattle.mc_pattern_text.proofs.CleanCommands.{IsAfter}
-use Rattle.mc_pattern_text.proofs.CleanLines.{signal_unmarked, first_under, second_under}
-use Rattle.mc_pattern_text.proofs.CleanLines.{decimal_no_mark}
-use Rattle.mc_pattern_text.proofs.Under.{AreUnmarked, behind, behind-append, correction_behind}
-use Rattle.mc_pattern_text.proofs.Under.{last_unmarked, unmarked}
+use Rattle.mc_pattern_text.proofs.CleanLines.{signal_unmarked, decimal_no_mark}
+use Rattle.mc_pattern_text.proofs.Under.{correction_at, signals_are}
 use Rattle.mc_pattern_text.proofs.CleanText.{command_after, inputs_after, pattern_clean}
 
 -- the canonical lines can be written
@@ -124,34 +118,6 @@ pattern_written half p h permitted =
     ) refl
 
 -- the commands that their lines spell
-if_none : (t : Bool) → let none : Words = [] in none ≡ (if t then none else none)
-if_none true = refl
-if_none false = refl
-
--- the terms of one signal, or of both, where `adds` picks those behind its mark
-module _ (adds : Role → List ℕ → Words) (s t : Bool)
-    (firsts : (w : List ℕ) → mark_of w ≡ None → adds first_term w ≡ (if s then w ∷ [] else []))
-    (seconds : (w : List ℕ) → mark_of w ≡ None → adds second_term w ≡ (if t then w ∷ [] else [])) where
-  t_behind : (mark : Option Mark) → adds (role_behind mark) (codes "t:") ≡ [] → (ts : Words)
-      → AreUnmarked ts → behind adds mark (marked (codes "t:") ts) ≡ (if t then ts else [])
-  t_behind mark none [] plain = if_none t
-  t_behind mark none (w ∷ ts) plain = rw none (unmarked adds (Some T) t seconds (w ∷ ts) plain)
-
-  both_behind : adds opening (codes "s:") ≡ [] → adds opening (codes "t:") ≡ []
-      → adds first_term (codes "t:") ≡ [] → (ss ts : Words) → AreUnmarked ss → AreUnmarked ts
-      → behind adds None (marked (codes "s:") ss ++ marked (codes "t:") ts)
-      ≡ (if s then ss else []) ++ (if t then ts else [])
-  both_behind a b c [] ts plain plain' =
-      t_behind None b ts plain'
-      ∙ ap (λ (xs : Words). xs ++ (if t then ts else [])) (if_none s)
-  both_behind a b c (w ∷ ss) ts plain plain' =
-      rw a
-      (behind-append adds (Some S) (w ∷ ss) (marked (codes "t:") ts)
-      ∙ ap₂ (λ (xs ys : Words). xs ++ ys) (unmarked adds (Some S) s firsts (w ∷ ss) plain)
-      (ap (λ (mark : Option Mark). behind adds mark (marked (codes "t:") ts))
-      (last_unmarked (Some S) (w ∷ ss) plain)
-      ∙ t_behind (Some S) c ts plain'))
-
 meas_back : (half : ℕ) (ns : List Name) (q a : ℕ) (s t : Signal) → AreNames ns
     → IsTrue (is_permitted half) → IsNamed (length ns) (Meas q a s t) → IsTyped half (Meas q a s t)
     → (let line = command_line ns (Meas q a s t) in
@@ -164,19 +130,13 @@ meas_back half ns q a s t valid permitted named typed =
     let no_a = decimal_no_mark half a permitted typed.0 in
     let s_plain = signal_unmarked ns s.members s.constant valid named.1 in
     let t_plain = signal_unmarked ns t.members t.constant valid named.2 in
-    let words = marked (codes "s:") (signal_words ns s) ++ marked (codes "t:") (signal_words ns t) in
-    let first = first_under false [] w (decimal a) no_w no_a words
-    ∙ both_behind first_of true false (λ v free. rw free refl) (λ v free. refl) refl refl refl
-    (signal_words ns s) (signal_words ns t) s_plain t_plain
-    ∙ append-nil (signal_words ns s) in
-    let second = second_under false [] w (decimal a) no_w no_a words
-    ∙ both_behind second_of false true (λ v free. refl) (λ v free. refl) refl refl refl
-    (signal_words ns s) (signal_words ns t) s_plain t_plain in
+    let both = signals_are [] w (decimal a) no_w no_a (signal_words ns s) (signal_words ns t) s_plain
+    t_plain in
     let number = number-name_at ns q valid.distinct named.0 in
     let angle = (angle-decimal half a permitted typed.0).1 in
     let s_back = words_back ns s valid typed.1 named.1 in
     let t_back = words_back ns t valid typed.2 named.2 in
-    ap₂ (λ (xs ys : Words). command_by half ns (spelled_m w (decimal a) xs ys)) first second
+    ap₂ (λ (xs ys : Words). command_by half ns (spelled_m w (decimal a) xs ys)) both.0 both.1
     ∙ rw (number, angle, s_back, t_back) refl
 
 command_back : (half : ℕ) (ns : List Name) (c : Command) → AreNames ns
@@ -191,11 +151,13 @@ command_back half ns (Meas q a s t) valid permitted named typed =
     ap Some (meas_back half ns q a s t valid permitted named typed)
 command_back half ns (FixX q s) valid permitted named typed =
     ap₂ (λ k signal. Some (FixX k signal)) (number-name_at ns q valid.distinct named.0)
-    (ap (signal_in ns) (correction_behind (codes "x") (name_at ns q) (signal_words ns s) refl)
+    (ap (signal_in ns) (correction_at [] (codes "x") (name_at ns q) (signal_words ns s) refl
+    (signal_unmarked ns s.members s.constant valid named.1)).s_is
     ∙ words_back ns s valid typed named.1)
 command_back half ns (FixZ q s) valid permitted named typed =
     ap₂ (λ k signal. Some (FixZ k signal)) (number-name_at ns q valid.distinct named.0)
-    (ap (signal_in ns) (correction_behind (codes "z") (name_at ns q) (signal_words ns s) refl)
+    (ap (signal_in ns) (correction_at [] (codes "z") (name_at ns q) (signal_words ns s) refl
+    (signal_unmarked ns s.members s.constant valid named.1)).s_is
     ∙ words_back ns s valid typed named.1)
 
 command_more : (f : Spelled → Command) (o : Option Spelled) (c : Command) (ds : List Command)

@@ -1,50 +1,16 @@
 -- The terms of a signal: its members and its constant, and the words that spell them.
-use Rattle.std.proofs.Common.{◌≡◌, ℕ, suc, ◌<◌, true, false, List, [], ◌∷◌, Some, None, length}
-use Rattle.std.proofs.Common.{not, Bool, refl, sym, ap, ◌∙◌, arith, slice_get, ne_eqb}
+use Rattle.std.proofs.Common.{◌≡◌, ℕ, suc, ◌<◌, true, false, List, [], ◌∷◌, Some, length}
+use Rattle.std.proofs.Common.{refl, ap, ◌∙◌, arith, slice_get, ne_eqb}
 use Rattle.std.proofs.lemmas.Option.{slice_get_within, get_or_from_slice_get}
-use Rattle.mc_model.specs.Bits.{Bits}
 use Rattle.mc_model.specs.Numbers.{is_member}
-use Rattle.mc_model.specs.Names.{is_name, is_held, place_of}
+use Rattle.mc_model.specs.Names.{is_name, place_of}
 use Rattle.mc_model.specs.Signals.{Signal, IsRising, signal_of, signal_sum, one_signal}
 use Rattle.mc_model.specs.Signals.{toggled, toggled_all}
 use Rattle.mc_signal.proofs.Members.{toggled_all-single}
 use Rattle.mc_signal.proofs.Rising.{rising_at}
-use Rattle.mc_text.specs.declared.fault.Fault.TheVariants.{ListedTwice, NotMeasured}
-use Rattle.mc_text.specs.Judged.{fault, Words}
-use Rattle.mc_text.specs.Rules.{broken, known_name, or_next}
-use Rattle.mc_rows.specs.Rows.{is_one, named}
-use Rattle.mc_rows.proofs.Sets.{has-listed, joins_one, joins_name}
-use Rattle.mc_pattern_text.specs.Judge.{member_name, term_word}
-use Rattle.mc_pattern_text.specs.Kept.{AreMarked, IsSpelled, Joins}
-use Rattle.mc_pattern_text.proofs.Marked.{marked-name}
-
--- a name stands among the words exactly where the signal has it as a member
-pub member_name_by : (names measured : List (List ℕ)) (words : Words) (signal : Signal)
-    (word : List ℕ) (q : ℕ) {s t : Bool} → IsSpelled names words signal
-    → known_name names word ≡ None → place_of names word ≡ Some q → (marks : Bits)
-    → AreMarked names measured marks → is_member signal.members q ≡ s → marks q ≡ t
-    → member_name names measured words word
-    ≡ or_next (broken ((s, ListedTwice) ∷ [])) (broken ((not t, NotMeasured) ∷ []))
-member_name_by names measured words signal word q {s} {t} spelled known place marks done is early =
-    let held : is_held (named words) word ≡ s =
-    sym (has-listed names words signal.members signal.constant word q place spelled) ∙ is in
-    let there : is_held measured word ≡ t =
-    sym (marked-name names measured marks word q done place) ∙ early in
-    rw (known, held, there) refl
-
--- the constant
-pub constant_twice : (names measured : List (List ℕ)) (words : Words) (signal : Signal)
-    (word : List ℕ) → IsSpelled names words signal → is_one word ≡ true
-    → signal.constant ≡ true
-    → term_word true names measured words word ≡ Some (fault ListedTwice)
-constant_twice names measured words signal word spelled is has =
-    rw (is, sym spelled.constant_is ∙ has) refl
-
-pub constant_clean : (names measured : List (List ℕ)) (words : Words) (signal : Signal)
-    (word : List ℕ) → IsSpelled names words signal → is_one word ≡ true
-    → signal.constant ≡ false → term_word true names measured words word ≡ None
-constant_clean names measured words signal word spelled is free =
-    rw (is, sym spelled.constant_is ∙ free) refl
+use Rattle.mc_rows.specs.Rows.{is_one}
+use Rattle.mc_rows.proofs.Sets.{joins_one, joins_name}
+use Rattle.mc_pattern_text.specs.Kept.{Joins}
 
 -- what a term adds
 pub joins_member : (names : List (List ℕ)) (s s' : Signal) (word : List ℕ) (q : ℕ)
@@ -85,5 +51,3 @@ above_last ps i m q rise long at lt = above_all ps q (λ k p get.
 pub empty_lacks : (ps : List ℕ) (q : ℕ) → length ps ≡ 0 → is_member ps q ≡ false
 empty_lacks [] q none = refl
 empty_lacks (p ∷ ps) q none = absurd (omega arith)
-
-pub ruleset constant_terms = (constant_clean, constant_twice)
