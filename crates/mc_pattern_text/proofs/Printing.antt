@@ -1,6 +1,6 @@
 -- The canonical text, part by part.
 use Rattle.std.proofs.Common.{◌≡◌, ℕ, ◌<◌, zero, suc, List, [], ◌∷◌, ◌++◌, length, map, take}
-use Rattle.std.proofs.Common.{get_or, codes, refl, sym, subst, ap, ◌∙◌, append_assoc, arith, Bool, ◌||◌}
+use Rattle.std.proofs.Common.{get_or, codes, refl, sym, subst, ap, append_assoc, arith, Bool, ◌||◌}
 use Rattle.std.specs.List.{list_any}
 use Rattle.std.proofs.lemmas.Grind.{flat_map-append}
 use Rattle.mc_write.specs.Text.{line_text, text_of}
@@ -21,39 +21,20 @@ AreNamed-at f n (y ∷ xs) (suc i) x e lt h = AreNamed-at f n xs i x e (omega ar
 regroup : (a b c d e : List ℕ) → (((a ++ b) ++ c) ++ d) ++ e ≡ a ++ (b ++ (c ++ (d ++ e)))
 regroup a b c d e = simp append_assoc
 
-parts : (half : ℕ) (p : Pattern) →
-    ((((line_text (header_words kind.Pattern (pattern_version p) half)
-    ++ line_text (codes "in" ∷ take p.inputs p.names))
-    ++ text_of (map (command_line p.names) p.commands))
-    ++ line_text (codes "out" ∷ map (name_at p.names) p.outputs))
-    ++ line_text (codes "end" ∷ []))
-    ≡ pattern_text half p
-parts half p =
+-- what is written, part by part
+pub printed : (half : ℕ) (p : Pattern) (headed with_inputs with_commands with_outputs whole : List ℕ)
+    → headed ≡ line_text (header_words kind.Pattern (pattern_version p) half)
+    → with_inputs ≡ headed ++ line_text (codes "in" ∷ take p.inputs p.names)
+    → with_commands ≡ with_inputs ++ text_of (map (command_line p.names) p.commands)
+    → with_outputs ≡ with_commands ++ line_text (codes "out" ∷ map (name_at p.names) p.outputs)
+    → whole ≡ with_outputs ++ line_text (codes "end" ∷ []) → whole ≡ pattern_text half p
+printed half p headed with_inputs with_commands with_outputs whole a b c d e =
     let commands = map (command_line p.names) p.commands in
     let out = codes "out" ∷ map (name_at p.names) p.outputs in
-    let end = (codes "end" ∷ []) ∷ [] in
-    let last = flat_map-append line_text commands (out ∷ end) in
-    regroup (line_text (header_words kind.Pattern (pattern_version p) half))
-    (line_text (codes "in" ∷ take p.inputs p.names)) (text_of commands) (line_text out)
-    (line_text (codes "end" ∷ []))
-    ∙ rw last refl
-
--- what is written, part by part
-pub record IsPrinted (half : ℕ) (p : Pattern)
-    (headed with_inputs with_commands with_outputs whole : List ℕ) : Type 0 where
-  pub header : headed ≡ line_text (header_words kind.Pattern (pattern_version p) half)
-  pub inputs : with_inputs ≡ headed ++ line_text (codes "in" ∷ take p.inputs p.names)
-  pub commands : with_commands ≡ with_inputs ++ text_of (map (command_line p.names) p.commands)
-  pub outputs : with_outputs
-      ≡ with_commands ++ line_text (codes "out" ∷ map (name_at p.names) p.outputs)
-  pub end : whole ≡ with_outputs ++ line_text (codes "end" ∷ [])
-
-pub printed : (half : ℕ) (p : Pattern)
-    (headed with_inputs with_commands with_outputs whole : List ℕ) →
-    IsPrinted half p headed with_inputs with_commands with_outputs whole →
-    whole ≡ pattern_text half p
-printed half p headed with_inputs with_commands with_outputs whole h =
-    rw (h.end, h.outputs, h.commands, h.inputs, h.header) (parts half p)
+    let end = codes "end" ∷ [] in
+    rw (e, d, c, b, a, flat_map-append line_text commands (out ∷ end ∷ []))
+    (regroup (line_text (header_words kind.Pattern (pattern_version p) half))
+    (line_text (codes "in" ∷ take p.inputs p.names)) (text_of commands) (line_text out) (line_text end))
 
 -- the test of a list of commands, through what they are made of
 pub any_map : {A : Type 0} (f : A → Command) (xs : List A) →

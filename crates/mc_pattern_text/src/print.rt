@@ -3,14 +3,13 @@
 ghost use Rattle.std.specs.Prelude.{◌≡◌, ◌++◌, ◌∷◌, [], ◌<◌, ◌≤◌, All, IfOk, OnOk, length, map};
 ghost use Rattle.std.specs.Prelude.{codes, take, if◌then◌else◌};
 ghost use Rattle.std.specs.List.{list_any};
-ghost use Rattle.mc_model.specs.Pattern.{Prep, Ent, Meas, has_constant as holds_constant};
+ghost use Rattle.mc_model.specs.Pattern.{has_constant as holds_constant};
 ghost use Rattle.mc_write.specs.Text.{line_text, text_of, words_behind};
 ghost use Rattle.mc_write.specs.Named.{name_at};
 ghost use Rattle.mc_pattern.specs.Commands.{plain_command};
 ghost use Rattle.mc_pattern_text.specs.Written.{IsNamed, AreNamed};
 ghost use Rattle.mc_pattern_text.specs.Canonical.{marked, command_line, signal_words, pattern_text};
 
-use mc_angle::Angle;
 use mc_lex::Kind;
 use mc_model::Memory;
 use mc_names::Names;
@@ -84,48 +83,6 @@ fn add_marked(text: &mut Vec<u8>, mark: &[u8], names: &Names, signal: &Signal) -
     add_signal(text, names, signal)
 }
 
-fn print_prep(text: &mut Vec<u8>, names: &Names, q: u16) -> Result<(), Memory>
-    requires { q < length names.now }
-    ensures { OnOk result (text.new.items ≡ text.old.items ++ line_text (command_line names.now (Prep q))) }
-{
-    start_line(text, b"n")?;
-    add_name(text, names, q)?;
-    end_line(text)
-}
-
-fn print_entangling(text: &mut Vec<u8>, names: &Names, q: u16, r: u16) -> Result<(), Memory>
-    requires first { q < length names.now }
-    requires second { r < length names.now }
-    ensures { OnOk result (text.new.items ≡ text.old.items ++ line_text (command_line names.now (Ent q r))) }
-{
-    start_line(text, b"e")?;
-    add_name(text, names, q)?;
-    add_name(text, names, r)?;
-    end_line(text)
-}
-
-fn print_measurement<const H: usize>(
-    text: &mut Vec<u8>,
-    names: &Names,
-    q: u16,
-    angle: &Angle<H>,
-    s: &Signal,
-    t: &Signal,
-) -> Result<(), Memory>
-    requires qubit { q < length names.now }
-    requires first { All (λ k. k < length names.now) s.now.members }
-    requires second { All (λ k. k < length names.now) t.now.members }
-    ensures { OnOk result (text.new.items ≡
-        text.old.items ++ line_text (command_line names.now (Meas q angle.now s.now t.now))) }
-{
-    start_line(text, b"m")?;
-    add_name(text, names, q)?;
-    add_number(text, angle.steps() as u32)?;
-    add_marked(text, b"s:", names, s)?;
-    add_marked(text, b"t:", names, t)?;
-    end_line(text)
-}
-
 fn print_correction(
     text: &mut Vec<u8>,
     head: &[u8],
@@ -154,9 +111,25 @@ fn print_command<const H: usize>(
         text.old.items ++ line_text (command_line names.now (plain_command command.now))) }
 {
     match command {
-        Command::Prep(q) => print_prep(text, names, *q),
-        Command::Ent(q, r) => print_entangling(text, names, *q, *r),
-        Command::Meas { q, angle, s, t } => print_measurement(text, names, *q, angle, s, t),
+        Command::Prep(q) => {
+            start_line(text, b"n")?;
+            add_name(text, names, *q)?;
+            end_line(text)
+        }
+        Command::Ent(q, r) => {
+            start_line(text, b"e")?;
+            add_name(text, names, *q)?;
+            add_name(text, names, *r)?;
+            end_line(text)
+        }
+        Command::Meas { q, angle, s, t } => {
+            start_line(text, b"m")?;
+            add_name(text, names, *q)?;
+            add_number(text, angle.steps() as u32)?;
+            add_marked(text, b"s:", names, s)?;
+            add_marked(text, b"t:", names, t)?;
+            end_line(text)
+        }
         Command::FixX { q, s } => print_correction(text, b"x", names, *q, s),
         Command::FixZ { q, s } => print_correction(text, b"z", names, *q, s),
     }
