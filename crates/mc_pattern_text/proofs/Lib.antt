@@ -14,7 +14,6 @@ pub mod Spelling
 pub mod Starting
 mod CleanCommands
 mod CleanLines
-mod CleanText
 mod ReadBack
 pub mod GoodTerms
 pub mod MadeCommands
