@@ -10,7 +10,6 @@ pub mod LineOrder
 pub mod KeepingWord
 pub mod Made
 pub mod KeepingLine
-pub mod Spelling
 pub mod Starting
 mod CleanCommands
 mod CleanLines
