@@ -3,7 +3,8 @@ use Rattle.std.proofs.Common.{◌≡◌, ℕ, zero, suc, ◌*◌, ◌<◌, List,
 use Rattle.std.proofs.Common.{false, None, length, map, refl, sym, ap, ◌∙◌, arith}
 use Rattle.std.proofs.Common.{append_assoc, replicate, IsTrue}
 use Rattle.std.proofs.Common.{lt-ltb, ne_eqb}
-use Rattle.std.specs.Prelude.{ℤ, pos, negsuc, unsigned_abs, int_rem_euclid}
+use Rattle.std.specs.Prelude.{ℤ, pos, negsuc, unsigned_abs}
+use Rattle.std.specs.Int.{int_rem_euclid}
 use Rattle.std.specs.List.{list_any, IsDistinct}
 use Rattle.std.proofs.lemmas.List.{length-map, map-append}
 use Rattle.std.proofs.lemmas.List.Folds.{list_any-append}
