@@ -1,9 +1,9 @@
 -- The canonical text of a pattern is read without a fault, as that pattern.
 use Rattle.std.proofs.Common.{◌≡◌, ℕ, ◌+◌, ◌≤◌, Bool, true, false, List, []}
 use Rattle.std.proofs.Common.{◌∷◌, ◌++◌, length, map, take, codes, refl, sym, ap, ap₂}
-use Rattle.std.proofs.Common.{◌∙◌, append_assoc, arith, Option, Some, None, IsTrue}
-use Rattle.std.proofs.Common.{if◌then◌else◌, suc, ◌<◌, not, ◌||◌, All, drop}
-use Rattle.std.proofs.Common.{length-append, nat_eq, cond, count_by, get_or}
+use Rattle.std.proofs.Common.{◌∙◌, append_assoc, arith, Option, Some, None, IsTrue, suc}
+use Rattle.std.proofs.Common.{◌<◌, not, ◌||◌, All, drop, length-append, nat_eq, cond}
+use Rattle.std.proofs.Common.{count_by, get_or}
 use Rattle.std.specs.Option.{option_map, unwrap_or}
 use Rattle.std.specs.Fmt.{decimal}
 use Rattle.std.specs.List.{filter_map, flat_map, list_all, list_any, IsDistinct}
@@ -28,9 +28,6 @@ use Rattle.mc_model.proofs.ValidLemmas.{prepared-append}
 use Rattle.mc_pattern.specs.Patterns.{IsPattern}
 use Rattle.mc_pattern.specs.Typed.{IsTyped, AllTyped, IsSet}
 use Rattle.mc_text.specs.declared.head.Head.{Head}
-use Rattle.mc_text.specs.declared.point.Mark.{Mark}
-use Rattle.mc_text.specs.declared.point.Mark.TheVariants.{S, T}
-use Rattle.mc_text.specs.Points.{mark_of}
 use Rattle.mc_text.specs.Headers.{header_words}
 use Rattle.mc_text.specs.Judged.{Words, Lines, section_lines}
 use Rattle.mc_text.specs.Lists.{names_in, names_at, operand_at}
@@ -42,12 +39,10 @@ use Rattle.mc_text.proofs.FirstNames.{distinct_part}
 use Rattle.mc_rows.proofs.Sound.{set_written}
 use Rattle.mc_text.proofs.HeadersWritten.{header_written}
 use Rattle.mc_text.proofs.Written.{is_written, is_written_line}
-use Rattle.mc_pattern_text.specs.Roles.{is_defining, is_input, is_output, Role, opening, first_term}
-use Rattle.mc_pattern_text.specs.Roles.{second_term, role_behind, may_follow, follows_command}
-use Rattle.mc_pattern_text.specs.Roles.{is_measuring, is_correcting}
-use Rattle.mc_pattern_text.specs.Value.{first_of, second_of, first_signal, signal_in, Spelled}
-use Rattle.mc_pattern_text.specs.Value.{spelled_m, spelled_command, spelled_commands, command_by}
-use Rattle.mc_pattern_text.specs.Value.{pattern_of}
+use Rattle.mc_pattern_text.specs.Roles.{is_defining, is_input, is_output, may_follow}
+use Rattle.mc_pattern_text.specs.Roles.{follows_command, is_measuring, is_correcting}
+use Rattle.mc_pattern_text.specs.Value.{first_signal, signal_in, Spelled, spelled_m}
+use Rattle.mc_pattern_text.specs.Value.{spelled_command, spelled_commands, command_by, pattern_of}
 use Rattle.mc_pattern_text.specs.Judge.{pattern_rules, measured_in, is_settled, rules_with}
 use Rattle.mc_pattern_text.specs.Judge.{permits_constants}
 use Rattle.mc_pattern_text.specs.Written.{IsNamed, AreNamed}
@@ -57,10 +52,8 @@ use Rattle.mc_pattern_text.proofs.NamedCommands.{pattern_named, measured_there}
 use Rattle.mc_pattern_text.proofs.NamedSignals.{words_back}
 use Rattle.mc_pattern_text.proofs.CleanCommands.{IsAfter, AreThere, front_more, known_clean}
 use Rattle.mc_pattern_text.proofs.CleanCommands.{measured_held, held_written}
-use Rattle.mc_pattern_text.proofs.CleanLines.{signal_unmarked, first_under, second_under}
-use Rattle.mc_pattern_text.proofs.CleanLines.{decimal_no_mark, command_clean}
-use Rattle.mc_pattern_text.proofs.Under.{AreUnmarked, behind, behind-append, correction_behind}
-use Rattle.mc_pattern_text.proofs.Under.{last_unmarked, unmarked, role_at}
+use Rattle.mc_pattern_text.proofs.CleanLines.{signal_unmarked, decimal_no_mark, command_clean}
+use Rattle.mc_pattern_text.proofs.Under.{role_at, correction_at, signals_are}
 use Rattle.std.proofs.Math.Seq.{take-length}
 use Rattle.std.proofs.lemmas.Option.{slice_get-get_or}
 use Rattle.std.proofs.lemmas.Bool.{and_parts, cases_Bool, or_left, or_right}
@@ -79,32 +72,6 @@ marked_written : (mark : List ℕ) (words : Words) → is_written mark ≡ true
     → list_all is_written words ≡ true → list_all is_written (marked mark words) ≡ true
 marked_written mark [] written all = refl
 marked_written mark (word ∷ words) written all = rw (written, all) refl
-
-if_none : (t : Bool) → let none : Words = [] in (if t then none else none) ≡ none
-if_none true = refl
-if_none false = refl
-
--- what the terms of one signal, or of both, add, where `adds` picks those behind its mark
-module _ (adds : Role → List ℕ → Words) (s t : Bool)
-    (firsts : (w : List ℕ) → mark_of w ≡ None → adds first_term w ≡ (if s then w ∷ [] else []))
-    (seconds : (w : List ℕ) → mark_of w ≡ None → adds second_term w ≡ (if t then w ∷ [] else [])) where
-  t_behind : (mark : Option Mark) → adds (role_behind mark) (codes "t:") ≡ [] → (ts : Words)
-      → AreUnmarked ts → behind adds mark (marked (codes "t:") ts) ≡ (if t then ts else [])
-  t_behind mark none [] plain = sym (if_none t)
-  t_behind mark none (w ∷ ts) plain = rw none (unmarked adds (Some T) t seconds (w ∷ ts) plain)
-
-  both_behind : adds opening (codes "s:") ≡ [] → adds opening (codes "t:") ≡ []
-      → adds first_term (codes "t:") ≡ [] → (ss ts : Words) → AreUnmarked ss → AreUnmarked ts
-      → behind adds None (marked (codes "s:") ss ++ marked (codes "t:") ts)
-      ≡ (if s then ss else []) ++ (if t then ts else [])
-  both_behind a b c [] ts plain plain' = rw (if_none s) (t_behind None b ts plain')
-  both_behind a b c (w ∷ ss) ts plain plain' =
-      rw a
-      (behind-append adds (Some S) (w ∷ ss) (marked (codes "t:") ts)
-      ∙ ap₂ (λ (xs ys : Words). xs ++ ys) (unmarked adds (Some S) s firsts (w ∷ ss) plain)
-      (ap (λ (mark : Option Mark). behind adds mark (marked (codes "t:") ts))
-      (last_unmarked (Some S) (w ∷ ss) plain)
-      ∙ t_behind (Some S) c ts plain'))
 
 -- the words of a command can be written, and spell it
 module _ (half : ℕ) (ns : List Name) (valid : AreNames ns) (permitted : IsTrue (is_permitted half)) where
@@ -141,16 +108,10 @@ module _ (half : ℕ) (ns : List Name) (valid : AreNames ns) (permitted : IsTrue
       let no_a = decimal_no_mark half a permitted typed.0 in
       let ss = signal_words ns s in
       let ts = signal_words ns t in
-      let words = marked (codes "s:") ss ++ marked (codes "t:") ts in
-      let plain = signal_unmarked ns s.members s.constant valid named.1 in
-      let plain' = signal_unmarked ns t.members t.constant valid named.2 in
-      let first = first_under false [] w (decimal a) no_w no_a words
-      ∙ both_behind first_of true false (λ v free. rw free refl) (λ v free. refl) refl refl refl ss ts
-      plain plain' ∙ append-nil ss in
-      let second = second_under false [] w (decimal a) no_w no_a words
-      ∙ both_behind second_of false true (λ v free. refl) (λ v free. refl) refl refl refl ss ts
-      plain plain' in
-      ap₂ (λ (xs ys : Words). Some (command_by half ns (spelled_m w (decimal a) xs ys))) first second
+      let both = signals_are [] w (decimal a) no_w no_a ss ts
+      (signal_unmarked ns s.members s.constant valid named.1)
+      (signal_unmarked ns t.members t.constant valid named.2) in
+      ap₂ (λ (xs ys : Words). Some (command_by half ns (spelled_m w (decimal a) xs ys))) both.0 both.1
       ∙ rw (
         number-name_at ns q valid.distinct named.0,
         (angle-decimal half a permitted typed.0).1,
@@ -162,7 +123,8 @@ module _ (half : ℕ) (ns : List Name) (valid : AreNames ns) (permitted : IsTrue
       → IsSet s → All (λ k. k < length ns) s.members
       → signal_in ns (first_signal (head ∷ name_at ns q ∷ signal_words ns s)) ≡ s
   fixed_back head q s gate set below =
-      ap (signal_in ns) (correction_behind head (name_at ns q) (signal_words ns s) gate)
+      ap (signal_in ns) (correction_at [] head (name_at ns q) (signal_words ns s) gate
+      (signal_unmarked ns s.members s.constant valid below)).s_is
       ∙ words_back ns s valid set below
 
   command_back : (c : Command) → IsNamed (length ns) c → IsTyped half c

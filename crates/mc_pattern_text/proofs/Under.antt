@@ -1,23 +1,28 @@
--- The words of a line's signals: one more word, and those behind the marks of a measurement.
+-- The words of a line by their places: their roles, and the words of the line's signals.
 use Rattle.std.proofs.Common.{◌≡◌, ℕ, ◌<◌, ◌≤◌, List, [], ◌∷◌, ◌++◌, Bool, true, false, Option, Some}
-use Rattle.std.proofs.Common.{None, fold, refl, sym, ap, ap₂, ◌∙◌, append_assoc, arith, ◌+◌}
+use Rattle.std.proofs.Common.{None, refl, ap, ◌∙◌, append_assoc, arith, ◌+◌, codes}
 use Rattle.std.proofs.Common.{nat_lt, ne_eqb, if◌then◌else◌}
 use Rattle.std.specs.List.{AllByRecursion}
 use Rattle.std.specs.Option.{option_or}
 use Rattle.std.proofs.lemmas.Bool.Decides.{nat_tests}
+use Rattle.std.proofs.lemmas.List.{append-nil}
 use Rattle.mc_text.specs.declared.head.Head.{Head}
 use Rattle.mc_text.specs.declared.head.Head.TheVariants.{M, X, Z}
 use Rattle.mc_text.specs.declared.point.Mark.{Mark}
+use Rattle.mc_text.specs.declared.point.Mark.TheVariants.{S, T}
 use Rattle.mc_text.specs.declared.point.Point.{Point}
 use Rattle.mc_text.specs.Heads.{head_of}
-use Rattle.mc_text.specs.Points.{first_point, mark_of, next_point, point_of, last_head}
+use Rattle.mc_text.specs.Points.{first_point, mark_of, next_point, point_of}
 use Rattle.mc_text.specs.Judged.{Words, Lines}
 use Rattle.mc_text.specs.Places.{words_by}
-use Rattle.mc_text.proofs.Going.{head_at, not_first}
+use Rattle.mc_text.proofs.Going.{head_at, not_first, point_of-more}
 use Rattle.mc_text.proofs.Kept.{count_some}
 use Rattle.mc_text.proofs.Places.{words_by-word}
-use Rattle.mc_pattern_text.specs.Roles.{Role, term, role_in, role_of, role_behind, is_measuring, is_correcting}
+use Rattle.mc_pattern_text.specs.Roles.{Role, operand, term, role_in, role_of, role_behind}
+use Rattle.mc_pattern_text.specs.Roles.{is_measuring, is_correcting}
 use Rattle.mc_pattern_text.specs.Value.{first_of, second_of, added_by, first_signal, second_signal}
+use Rattle.mc_pattern_text.specs.Judge.{Known, judge_by, lacks_by}
+use Rattle.mc_pattern_text.specs.Canonical.{marked}
 
 -- the role of a word behind a record word
 pub role_at : (before : Lines) (h : List ℕ) (list : Words)
@@ -45,125 +50,180 @@ onto_mark mark word = option_or (mark_of word) mark
 next_mark : (p : Point) (w : List ℕ) → 0 < p.count → (next_point p w).mark ≡ onto_mark p.mark w
 next_mark p w some = rw (ne_eqb p.count 0 (λ (e : p.count ≡ 0). omega arith)) refl
 
-next_count : (p : Point) (w : List ℕ) (k : ℕ) → 0 < p.count → k ≤ p.count
-    → k ≤ (next_point p w).count
-next_count p w k some few =
-    rw (ne_eqb p.count 0 (λ (e : p.count ≡ 0). omega arith)) (stays p.count few)
+next_count : (p : Point) (w : List ℕ) → 0 < p.count → p.count ≤ (next_point p w).count
+next_count p w some =
+    rw (ne_eqb p.count 0 (λ (e : p.count ≡ 0). omega arith)) (stays p.count)
   where
-    stays : (c : ℕ) → k ≤ c → k ≤ (if nat_lt c 4 then c + 1 else c)
-    stays c few = grind (arith, nat_tests)
-
-mark_from : (p : Point) (words : Words) → 0 < p.count
-    → (fold next_point p words).mark ≡ fold onto_mark p.mark words
-mark_from p [] some = refl
-mark_from p (w ∷ words) some =
-    mark_from (next_point p w) words (not_first p w some).1
-    ∙ ap (λ m. fold onto_mark m words) (next_mark p w some)
-
-pub mark_at : (before : Lines) (h : List ℕ) (words : Words)
-    → (point_of before (h ∷ words)).mark ≡ fold onto_mark None words
-mark_at before h words =
-    mark_from (next_point (first_point (last_head before)) h) words (omega arith)
-
--- what words add that stand behind the angle of a measurement, where this is the last mark
-abbrev pub behind : (Role → List ℕ → Words) → Option Mark → Words → Words
-behind adds mark [] = []
-behind adds mark (word ∷ words) =
-    adds (role_behind mark) word ++ behind adds (onto_mark mark word) words
-
-pub behind-append : (adds : Role → List ℕ → Words) (mark : Option Mark) (xs ys : Words)
-    → behind adds mark (xs ++ ys)
-    ≡ behind adds mark xs ++ behind adds (fold onto_mark mark xs) ys
-behind-append adds mark [] ys = refl
-behind-append adds mark (x ∷ xs) ys =
-    rw (behind-append adds (onto_mark mark x) xs ys)
-    (sym (append_assoc (adds (role_behind mark) x) (behind adds (onto_mark mark x) xs)
-    (behind adds (fold onto_mark (onto_mark mark x) xs) ys)))
-
-pub role_behind_angle : (p : Point) → p.head ≡ Some M → 3 ≤ p.count → role_of p ≡ role_behind p.mark
-role_behind_angle p g le =
-    rw (
-      ne_eqb p.count 0 (λ e. omega arith),
-      g,
-      ne_eqb p.count 1 (λ e. omega arith),
-      ne_eqb p.count 2 (λ e. omega arith),
-    ) refl
-
-behind_from : (adds : Role → List ℕ → Words) (p : Point) (ws : Words) → p.head ≡ Some M
-    → 3 ≤ p.count → words_by (added_by adds) p ws ≡ behind adds p.mark ws
-behind_from adds p [] g le = refl
-behind_from adds p (w ∷ ws) g le =
-    let some : 0 < p.count = omega arith in
-    ap₂ (λ (xs ys : Words). xs ++ ys) (ap (λ (r : Role). adds r w) (role_behind_angle p g le))
-    (behind_from adds (next_point p w) ws ((not_first p w some).0 ∙ g) (next_count p w 3 some le)
-    ∙ ap (λ (mark : Option Mark). behind adds mark ws) (next_mark p w some))
-
-module _ (h a b : List ℕ) (ws : Words) (g : head_of h ≡ Some M) where
-  abbrev third : Point
-  third = record { last = None; head = Some M; count = 3; mark = fold onto_mark None (a ∷ b ∷ []) }
-
-  pub first_behind : first_signal (h ∷ a ∷ b ∷ ws)
-      ≡ behind first_of (fold onto_mark None (a ∷ b ∷ [])) ws
-  first_behind = rw g (behind_from first_of third ws refl (omega arith))
-
-  pub second_behind : second_signal (h ∷ a ∷ b ∷ ws)
-      ≡ behind second_of (fold onto_mark None (a ∷ b ∷ [])) ws
-  second_behind = rw g (behind_from second_of third ws refl (omega arith))
+    stays : (c : ℕ) → c ≤ (if nat_lt c 4 then c + 1 else c)
+    stays c = grind (arith, nat_tests)
 
 -- words without marks
 abbrev pub AreUnmarked : Words → Type 0
 AreUnmarked words = AllByRecursion (λ word. mark_of word ≡ None) words
 
-pub last_unmarked : (mark : Option Mark) (words : Words) → AreUnmarked words
-    → fold onto_mark mark words ≡ mark
-last_unmarked mark [] plain = refl
-last_unmarked mark (w ∷ words) plain = rw plain.0 (last_unmarked mark words plain.1)
+-- words, or none
+abbrev pub where_so : Bool → Words → Words
+where_so true words = words
+where_so false words = []
 
-pub unmarked : (adds : Role → List ℕ → Words) (mark : Option Mark) (t : Bool)
-    → ((w : List ℕ) → mark_of w ≡ None → adds (role_behind mark) w ≡ (if t then w ∷ [] else []))
-    → (words : Words) → AreUnmarked words → behind adds mark words ≡ (if t then words else [])
-unmarked adds mark true one [] plain = refl
-unmarked adds mark false one [] plain = refl
-unmarked adds mark true one (w ∷ words) plain =
-    rw (one w plain.0, plain.0, unmarked adds mark true one words plain.1) refl
-unmarked adds mark false one (w ∷ words) plain =
-    rw (one w plain.0, plain.0, unmarked adds mark false one words plain.1) refl
+so_none : (t : Bool) (s : Words) → s ++ where_so t [] ≡ s
+so_none true s = append-nil s
+so_none false s = append-nil s
 
--- the signal of a correction
-pub correction_role : (p : Point) → is_correcting p.head ≡ true → 2 ≤ p.count → role_of p ≡ term
-correction_role p gate le = by_head p.head refl gate
-  where
-    by_head : (hd : Option Head) → p.head ≡ hd → is_correcting hd ≡ true → role_of p ≡ term
-    by_head None g e = absurd (cc e)
-    by_head (Some X) g e =
-        rw (ne_eqb p.count 0 (λ z. omega arith), g, ne_eqb p.count 1 (λ z. omega arith)) refl
-    by_head (Some Z) g e =
-        rw (ne_eqb p.count 0 (λ z. omega arith), g, ne_eqb p.count 1 (λ z. omega arith)) refl
-    by_head (Some _) g e = absurd (cc e)
+so_more : (t : Bool) (s : Words) (w : List ℕ) (ws : Words)
+    → (s ++ where_so t (w ∷ [])) ++ where_so t ws ≡ s ++ where_so t (w ∷ ws)
+so_more true s w ws = append_assoc s (w ∷ []) ws
+so_more false s w ws = append-nil (s ++ [])
 
-terms_from : (p : Point) (ws : Words) → is_correcting p.head ≡ true → 2 ≤ p.count
-    → words_by (added_by first_of) p ws ≡ ws
-terms_from p [] g le = refl
-terms_from p (w ∷ ws) g le =
-    let some : 0 < p.count = omega arith in
-    ap₂ (λ (xs ys : Words). xs ++ ys) (ap (λ (r : Role). first_of r w) (correction_role p g le))
-    (terms_from (next_point p w) ws (ap is_correcting (not_first p w some).0 ∙ g)
-    (next_count p w 2 some le))
+-- behind some words of a line the last mark alone gives the role of a word; and these are the words
+-- of its signals so far
+pub record IsAt (tail : Option Mark → Role) (before : Lines) (here : Words) (mark : Option Mark)
+    (s t : Words) : Type 0 where
+  pub some : 0 < (point_of before here).count
+  pub fixed : (n : ℕ) → (point_of before here).count ≤ n → (m : Option Mark)
+      → role_in (point_of before here).head n m ≡ tail m
+  pub mark_is : (point_of before here).mark ≡ mark
+  pub s_is : first_signal here ≡ s
+  pub t_is : second_signal here ≡ t
 
-pub correction_behind : (h a : List ℕ) (ws : Words) → is_correcting (head_of h) ≡ true
-    → first_signal (h ∷ a ∷ ws) ≡ ws
-correction_behind h a ws gate = by_head (head_of h) refl gate
-  where
-    by_head : (hd : Option Head) → head_of h ≡ hd → is_correcting hd ≡ true
-        → first_signal (h ∷ a ∷ ws) ≡ ws
-    by_head None g e = absurd (cc e)
-    by_head (Some X) g e =
-        rw g (terms_from (record { last = None; head = Some X; count = 2; mark = fold onto_mark None (a ∷ []) }) ws
-        refl (omega arith))
-    by_head (Some Z) g e =
-        rw g (terms_from (record { last = None; head = Some Z; count = 2; mark = fold onto_mark None (a ∷ []) }) ws
-        refl (omega arith))
-    by_head (Some _) g e = absurd (cc e)
+module _ (tail : Option Mark → Role) (before : Lines) where
+  pub role_here : (here : Words) (mark : Option Mark) (s t : Words)
+      → IsAt tail before here mark s t → role_of (point_of before here) ≡ tail mark
+  role_here here mark s t at =
+      let p = point_of before here in
+      let some = at.some in
+      rw (ne_eqb p.count 0 (λ (e : p.count ≡ 0). omega arith))
+      (at.fixed p.count (omega arith) p.mark ∙ ap tail at.mark_is)
+
+  pub next_at : (here : Words) (mark : Option Mark) (s t : Words) (w : List ℕ)
+      → IsAt tail before here mark s t
+      → IsAt tail before (here ++ w ∷ []) (onto_mark mark w) (s ++ first_of (tail mark) w)
+      (t ++ second_of (tail mark) w)
+  next_at here mark s t w at =
+      let p = point_of before here in
+      let q = next_point p w in
+      let more = point_of-more before here w in
+      let role = role_here here mark s t at in
+      let on = not_first p w at.some in
+      let wider = next_count p w at.some in
+      record {
+        some = rw more on.1;
+        fixed = λ n le m.
+            let le' : q.count ≤ n = rw more at le in
+            ap (λ (q : Point). role_in q.head n m) more
+            ∙ ap (λ (h : Option Head). role_in h n m) on.0
+            ∙ at.fixed n (omega (arith, wider, le')) m;
+        mark_is =
+            ap (λ (q : Point). q.mark) more
+            ∙ next_mark p w at.some
+            ∙ ap (λ (m : Option Mark). onto_mark m w) at.mark_is;
+        s_is = added-word first_of before here p w refl ∙ rw (at.s_is, role) refl;
+        t_is = added-word second_of before here p w refl ∙ rw (at.t_is, role) refl;
+      }
+
+  -- words without marks, which go into the first signal or not, and into the second or not
+  pub list_at : (f g : Bool) (here : Words) (mark : Option Mark) (s t ws : Words)
+      → ((w : List ℕ) → mark_of w ≡ None → (first_of (tail mark) w ≡ where_so f (w ∷ []))
+      × (second_of (tail mark) w ≡ where_so g (w ∷ [])))
+      → AreUnmarked ws → IsAt tail before here mark s t
+      → IsAt tail before (here ++ ws) mark (s ++ where_so f ws) (t ++ where_so g ws)
+  list_at f g here mark s t [] adds plain at =
+      rw (append-nil here, so_none f s, so_none g t) at
+  list_at f g here mark s t (w ∷ ws) adds plain at =
+      let both = adds w plain.0 in
+      let next : IsAt tail before (here ++ w ∷ []) mark (s ++ where_so f (w ∷ []))
+      (t ++ where_so g (w ∷ [])) =
+      rw (plain.0, both.0, both.1) at (next_at here mark s t w at) in
+      rw (← append_assoc here (w ∷ []) ws, ← so_more f s w ws, ← so_more g t w ws)
+      (list_at f g (here ++ w ∷ []) mark (s ++ where_so f (w ∷ [])) (t ++ where_so g (w ∷ [])) ws
+      adds plain.1 next)
+
+-- the words of a correction
+corrects : (hd : Option Head) → is_correcting hd ≡ true
+    → (role_in hd 1 None ≡ operand)
+    × ((n : ℕ) → 2 ≤ n → (m : Option Mark) → role_in hd n m ≡ term)
+corrects None e = absurd (cc e)
+corrects (Some X) e = (refl, λ n le m. rw (ne_eqb n 1 (λ z. omega arith)) refl)
+corrects (Some Z) e = (refl, λ n le m. rw (ne_eqb n 1 (λ z. omega arith)) refl)
+corrects (Some _) e = absurd (cc e)
+
+pub correction_at : (before : Lines) (h a : List ℕ) (words : Words)
+    → is_correcting (head_of h) ≡ true → AreUnmarked words
+    → IsAt (λ m. term) before (h ∷ a ∷ words) (onto_mark None a) words []
+correction_at before h a words gate plain =
+    let is = corrects (head_of h) gate in
+    list_at (λ m. term) before true false (h ∷ a ∷ []) (onto_mark None a) [] [] words
+    (λ w free. (refl, refl)) plain (record {
+      some = omega arith;
+      fixed = is.1;
+      mark_is = refl;
+      s_is = rw is.0 refl;
+      t_is = rw is.0 refl;
+    })
+
+-- the mark of the second signal may stand behind this one, or the line end
+pub record Opens (mark : Option Mark) : Type 0 where
+  pub clean : (constants : Bool) (k : Known) (last : Option Head)
+      → judge_by constants k last (role_behind mark) (codes "t:") ≡ None
+  pub ends : (k : Known) → lacks_by k (role_behind mark) ≡ None
+  pub first : first_of (role_behind mark) (codes "t:") ≡ []
+  pub second : second_of (role_behind mark) (codes "t:") ≡ []
+
+-- the words of a measurement
+module _ (before : Lines) (w a : List ℕ) (no_w : mark_of w ≡ None) (no_a : mark_of a ≡ None) where
+  pub measured_at : IsAt role_behind before (codes "m" ∷ w ∷ a ∷ []) None [] []
+  measured_at = record {
+    some = omega arith;
+    fixed = λ n le m. rw (ne_eqb n 1 (λ z. omega arith), ne_eqb n 2 (λ z. omega arith)) refl;
+    mark_is = rw (no_w, no_a) refl;
+    s_is = refl;
+    t_is = refl;
+  }
+
+  -- behind the mark of the first signal
+  pub first_at : (list : Words) → AreUnmarked list
+      → IsAt role_behind before (codes "m" ∷ w ∷ a ∷ codes "s:" ∷ list) (Some S) list []
+  first_at list plain =
+      list_at role_behind before true false (codes "m" ∷ w ∷ a ∷ codes "s:" ∷ []) (Some S) [] [] list
+      (λ v free. (rw free refl, refl)) plain
+      (next_at role_behind before (codes "m" ∷ w ∷ a ∷ []) None [] [] (codes "s:") measured_at)
+
+  pub firsts_at : (words : Words) → AreUnmarked words → (mark : Option Mark) × Opens mark
+      × IsAt role_behind before (codes "m" ∷ w ∷ a ∷ marked (codes "s:") words) mark words []
+  firsts_at [] plain =
+      (None, record { clean = λ c k l. refl; ends = λ k. refl; first = refl; second = refl }, measured_at)
+  firsts_at (v ∷ words) plain = (
+    Some S,
+    record { clean = λ c k l. refl; ends = λ k. refl; first = refl; second = refl },
+    first_at (v ∷ words) plain,
+  )
+
+  -- behind the mark of the second
+  pub second_at : (firsts s list : Words) (mark : Option Mark) → Opens mark
+      → IsAt role_behind before (codes "m" ∷ w ∷ a ∷ firsts) mark s [] → AreUnmarked list
+      → IsAt role_behind before (codes "m" ∷ w ∷ a ∷ ((firsts ++ codes "t:" ∷ []) ++ list)) (Some T)
+      s list
+  second_at firsts s list mark opens at plain =
+      let here = codes "m" ∷ w ∷ a ∷ firsts in
+      let next : IsAt role_behind before (here ++ codes "t:" ∷ []) (Some T) s [] =
+      rw (opens.first, opens.second, append-nil s) at
+      (next_at role_behind before here mark s [] (codes "t:") at) in
+      rw (append-nil s) at
+      (list_at role_behind before false true (here ++ codes "t:" ∷ []) (Some T) s [] list
+      (λ v free. (refl, refl)) plain next)
+
+  -- what the line spells
+  pub signals_are : (ss ts : Words) → AreUnmarked ss → AreUnmarked ts
+      → (let line = codes "m" ∷ w ∷ a ∷ (marked (codes "s:") ss ++ marked (codes "t:") ts) in
+      (first_signal line ≡ ss) × (second_signal line ≡ ts))
+  signals_are ss [] plain plain' =
+      let at = (firsts_at ss plain).2 in
+      rw (append-nil (marked (codes "s:") ss), at.s_is, at.t_is) (refl, refl)
+  signals_are ss (v ∷ ts) plain plain' =
+      let firsts = marked (codes "s:") ss in
+      let first = firsts_at ss plain in
+      let at = second_at firsts ss (v ∷ ts) first.0 first.1 first.2 plain' in
+      rw (← append_assoc firsts (codes "t:" ∷ []) (v ∷ ts), at.s_is, at.t_is) (refl, refl)
 
 -- record words by their tests
 pub measuring_head : (h : Option Head) → is_measuring h ≡ true → h ≡ Some M
