@@ -2,7 +2,9 @@
 use Rattle.std.proofs.Common.{◌≡◌, ℕ, ◌+◌, ◌<◌, List, [], ◌∷◌, ◌++◌, Bool, true, false}
 use Rattle.std.proofs.Common.{◌||◌, Option, Some, map, refl, sym, subst, ap}
 use Rattle.std.proofs.Common.{◌∙◌, arith, ◌==◌, nat_eq}
-use Rattle.std.proofs.lemmas.Bool.{eq-eqb, eqb-true}
+use Rattle.std.proofs.lemmas.Bool.{cases_Bool, eq-eqb, eqb-true}
+use Rattle.std.proofs.Math.Bool.{or-false}
+use mathlib.Core.Logic.{inl, inr}
 use Rattle.std.proofs.lemmas.List.{append-nil, map-append}
 use Rattle.std.proofs.lemmas.List.Folds.{list_all-append, list_any-append}
 use Rattle.mc_model.specs.Bits.{Bits}
@@ -39,10 +41,7 @@ marked-more names more list marks are =
 -- a list with one more name
 member-last : (qs : List ℕ) (q r : ℕ) → is_member (qs ++ q ∷ []) r ≡ is_member qs r || nat_eq r q
 member-last qs q r =
-    list_any-append (nat_eq r) qs (q ∷ []) ∙ or_false (is_member qs r) (nat_eq r q)
-  where
-    or_false : (a b : Bool) → (a || (b || false)) ≡ (a || b)
-    or_false a b = grind arith
+    list_any-append (nat_eq r) qs (q ∷ []) ∙ ap (λ b. is_member qs r || b) (or-false (nat_eq r q))
 
 pub marked-word : (names list : List (List ℕ)) (marks marks' : Bits) (word : List ℕ) (q : ℕ)
     → AreMarked names list marks → place_of names word ≡ Some q
@@ -78,11 +77,10 @@ joined names words (w ∷ more) s s' are joins = joins words are
 operand_gate : (n : ℕ) (test : Option Head → Bool) (here : Words) (a : List ℕ)
     → operand_at n test here ≡ Some a → test (head_in here) ≡ true
 operand_gate n test [] a e = absurd (cc e)
-operand_gate n test (h ∷ words) a e = by_test (test (head_of h)) refl
-  where
-    by_test : (t : Bool) → test (head_of h) ≡ t → t ≡ true
-    by_test true f = refl
-    by_test false f = let e' = rw f at e in absurd (cc e')
+operand_gate n test (h ∷ words) a e = elim (cases_Bool (test (head_of h))) [
+  | inl t ↦ t
+  | inr f ↦ absurd (cc (rw f at e))
+]
 
 operand_cases : (n : ℕ) (test : Option Head → Bool) (before : Lines) (here : Words) (p : Point)
     (word : List ℕ) (P : List ℕ → Type 0) → n < 3 → p ≡ point_of before here

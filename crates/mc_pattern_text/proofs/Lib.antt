@@ -1,5 +1,4 @@
 pub mod NamedCommands
-pub mod Printing
 pub mod NamedSignals
 pub mod Marked
 pub mod Terms
@@ -13,7 +12,7 @@ pub mod KeepingLine
 pub mod Starting
 mod CleanCommands
 mod CleanLines
-mod ReadBack
+pub mod ReadBack
 pub mod GoodTerms
 pub mod MadeCommands
 pub mod SoundLines

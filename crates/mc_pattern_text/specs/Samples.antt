@@ -1,6 +1,6 @@
 -- The definitions, computed on small texts: each fault that a pattern can meet, with its place.
-use Rattle.std.specs.Prelude.{◌≡◌, ℕ, List, [], ◌∷◌, codes, replicate, true, false, Option, None}
-use Rattle.std.specs.Prelude.{Some, refl, map}
+use Rattle.std.specs.Prelude.{◌≡◌, ℕ, List, [], ◌∷◌, codes, replicate, Bool, true, false}
+use Rattle.std.specs.Prelude.{Option, None, Some, refl, map}
 use Rattle.mc_lex.specs.Lines.{lines_of, end_of}
 use Rattle.mc_model.specs.Signals.{Signal, no_signal, one_signal}
 use Rattle.mc_model.specs.Pattern.{Pattern, Prep, Ent, Meas, FixX, FixZ}
@@ -22,12 +22,13 @@ first version text = first_in_section (pattern_rules version) [] (lines_of text)
 abbrev pub Spells : List ℕ → Pattern → Type 0
 Spells text pattern = pattern_of 4 (section_lines (lines_of text)) ≡ pattern
 
-abbrev pub set_of : List ℕ → Signal
-set_of qs = record { members = qs; constant = false }
+abbrev pub signal_of : List ℕ → Bool → Signal
+signal_of qs constant = record { members = qs; constant = constant }
 
+-- each command, with constants behind the members, before them and between them, and without
 abbrev pub each_command : List ℕ
 each_command =
-    codes "in a b\nn q\ne a q # c\nm b -1\n\nm\ta 09 s: b t: b\nx q b a\nz q\nout q\nend\n"
+    codes "in a b\nn q\ne a q # c\nm b -1 t: !\n\nm\ta 09 s: ! b t: b\nx q b ! a\nz q a !\nx q\nout q\nend\n"
 
 pub spells : Spells each_command (record {
   names = codes "a" ∷ codes "b" ∷ codes "q" ∷ [];
@@ -36,45 +37,16 @@ pub spells : Spells each_command (record {
   commands =
       Prep 2
       ∷ Ent 0 2
-      ∷ Meas 1 7 no_signal no_signal
-      ∷ Meas 0 1 (set_of (1 ∷ [])) (set_of (1 ∷ []))
-      ∷ FixX 2 (set_of (0 ∷ 1 ∷ []))
-      ∷ FixZ 2 no_signal
+      ∷ Meas 1 7 no_signal one_signal
+      ∷ Meas 0 1 (signal_of (1 ∷ []) true) (signal_of (1 ∷ []) false)
+      ∷ FixX 2 (signal_of (0 ∷ 1 ∷ []) true)
+      ∷ FixZ 2 (signal_of (0 ∷ []) true)
+      ∷ FixX 2 no_signal
       ∷ [];
 })
 spells = refl
 
-pub second_alone : Spells (codes "in a b\nm a 0\nm b 0 t: a\nout\nend\n") (record {
-  names = codes "a" ∷ codes "b" ∷ [];
-  inputs = 2;
-  outputs = [];
-  commands = Meas 0 0 no_signal no_signal ∷ Meas 1 0 no_signal (set_of (0 ∷ [])) ∷ [];
-})
-second_alone = refl
-
--- constants, behind the members, before them and between them
-abbrev pub with_constants : List ℕ
-with_constants =
-    codes "in a b c\nm a 0 t: !\nm b 1 s: ! a t: a !\nx c b ! a\nz c !\nx c\nout c\nend\n"
-
-abbrev pub set_and_one : List ℕ → Signal
-set_and_one qs = record { members = qs; constant = true }
-
-pub spells_constants : Spells with_constants (record {
-  names = codes "a" ∷ codes "b" ∷ codes "c" ∷ [];
-  inputs = 3;
-  outputs = 2 ∷ [];
-  commands =
-      Meas 0 0 no_signal one_signal
-      ∷ Meas 1 1 (set_and_one (0 ∷ [])) (set_and_one (0 ∷ []))
-      ∷ FixX 2 (set_and_one (0 ∷ 1 ∷ []))
-      ∷ FixZ 2 one_signal
-      ∷ FixX 2 no_signal
-      ∷ [];
-})
-spells_constants = refl
-
-pub no_constants_in_version_1 : first 1 with_constants ≡ Some (fault NotName, (2, 10))
+pub no_constants_in_version_1 : first 1 each_command ≡ Some (fault NotName, (4, 11))
 no_constants_in_version_1 = refl
 
 -- texts without a fault, and their versions
@@ -83,7 +55,7 @@ clean_texts =
     (1, codes "in\nout\nend")
     ∷ (1, codes "in a b\nn q\ne a q\nm a 0\nm b 1 s: a t: a\nx q a b\nz q\nout q\nend\n")
     ∷ (1, codes "in a\nm a 0 s: t:\nout\nend")
-    ∷ (2, with_constants)
+    ∷ (2, each_command)
     ∷ (2, codes "in a\nm a 0 s: ! t: !\nout\nend\n")
     ∷ []
 

@@ -62,14 +62,6 @@ fn print_inputs(text: &mut Vec<u8>, names: &Names, inputs: u16) -> Result<(), Me
     end_line(text)
 }
 
-/// Writes a signal as further words of a line.
-fn add_signal(text: &mut Vec<u8>, names: &Names, signal: &Signal) -> Result<(), Memory>
-    requires { All (λ k. k < length names.now) signal.now.members }
-    ensures { OnOk result (text.new.items ≡ text.old.items ++ words_behind (signal_words names.now signal.now)) }
-{
-    add_set(text, names, signal.members(), signal.constant())
-}
-
 /// Writes a signal behind a mark, where it is not empty.
 fn add_marked(text: &mut Vec<u8>, mark: &[u8], names: &Names, signal: &Signal) -> Result<(), Memory>
     requires { All (λ k. k < length names.now) signal.now.members }
@@ -80,7 +72,7 @@ fn add_marked(text: &mut Vec<u8>, mark: &[u8], names: &Names, signal: &Signal) -
         return Ok(());
     }
     add_word(text, mark)?;
-    add_signal(text, names, signal)
+    add_set(text, names, signal.members(), signal.constant())
 }
 
 fn print_correction(
@@ -97,7 +89,7 @@ fn print_correction(
 {
     start_line(text, head)?;
     add_name(text, names, q)?;
-    add_signal(text, names, signal)?;
+    add_set(text, names, signal.members(), signal.constant())?;
     end_line(text)
 }
 

@@ -7,7 +7,7 @@ use Rattle.mc_text.specs.Headers.{header_words}
 use Rattle.mc_pattern.specs.Commands.{plain_command}
 use Rattle.mc_pattern_text.specs.Canonical.{pattern_version}
 use Rattle.mc_pattern_text.proofs.NamedCommands.{pattern_named}
-use Rattle.mc_pattern_text.proofs.Printing.{printed, any_map}
+use Rattle.mc_pattern_text.proofs.ReadBack.{printed, any_map}
 use Rattle.mc_pattern_text.proofs.print.print_pattern.Goals as goal
 
 pub print_commands-requires : goal.print_commands-requires
