@@ -25,7 +25,7 @@ use Rattle.mc_model.specs.Signals.{Signal}
 use Rattle.mc_model.specs.Steps.{is_permitted}
 use Rattle.mc_model.proofs.StepLemmas.{permitted_at_most}
 use Rattle.mc_model.specs.Valid.{prepared, FitsBehind, measured}
-use Rattle.mc_model.proofs.ValidLemmas.{prepared-append}
+use Rattle.mc_model.proofs.ValidLemmas.{prepared-append, measured-append}
 use Rattle.mc_pattern.specs.Patterns.{IsPattern}
 use Rattle.mc_pattern.specs.Typed.{IsTyped, AllTyped, IsSet}
 use Rattle.mc_text.specs.declared.head.Head.{Head}
@@ -49,15 +49,14 @@ use Rattle.mc_pattern_text.specs.Judge.{permits_constants}
 use Rattle.mc_pattern_text.specs.Written.{IsNamed, AreNamed}
 use Rattle.mc_pattern_text.specs.Canonical.{pattern_version, signal_words, marked, command_line}
 use Rattle.mc_pattern_text.specs.Canonical.{pattern_lines, pattern_text, behind_header}
-use Rattle.mc_pattern_text.proofs.NamedCommands.{pattern_named, measured_there}
 use Rattle.mc_pattern_text.proofs.NamedSignals.{words_back}
-use Rattle.mc_pattern_text.proofs.CleanCommands.{IsAfter, AreThere, front_more, known_clean}
-use Rattle.mc_pattern_text.proofs.CleanCommands.{measured_held, held_written}
+use Rattle.mc_pattern_text.proofs.CleanCommands.{AreThere, front_more, known_clean, measured_held}
+use Rattle.mc_pattern_text.proofs.CleanCommands.{held_written, signal_members}
 use Rattle.mc_pattern_text.proofs.CleanLines.{signal_unmarked, decimal_no_mark, command_clean}
 use Rattle.mc_pattern_text.proofs.Under.{role_at, correction_at, signals_are}
 use Rattle.std.proofs.Math.Seq.{take-length}
 use Rattle.std.proofs.lemmas.Option.{slice_get-get_or}
-use Rattle.std.proofs.lemmas.Bool.{and_parts, cases_Bool, or_left, or_right}
+use Rattle.std.proofs.lemmas.Bool.{and_parts, cases_Bool, or_left, or_right, or_cases, eqb-true}
 use mathlib.Core.Logic.{inl, inr}
 use Rattle.mc_model.specs.Numbers.{is_member, ListsOnce}
 use Rattle.mc_pattern.proofs.Members.{below_by, counts_member, member_counts}
@@ -68,6 +67,7 @@ use Rattle.mc_rows.proofs.Lines.{all_front, among}
 use Rattle.mc_text.proofs.Done.{last_head-more}
 use Rattle.mc_text.proofs.NamesHere.{names_here}
 use Rattle.mc_write.specs.Text.{line_text, text_of}
+use Rattle.std.proofs.Math.Bool.{or-false}
 
 -- ---- what is printed
 
@@ -229,46 +229,101 @@ defined_after ns inputs before done (Prep q) defined fits within =
 defined_after ns inputs before done _ defined fits within =
     defined ∙ same_count ns inputs done _ refl
 
-command_after : (ns : List Name) (inputs : ℕ) (before : Lines) (done : List Command) (c : Command)
-    → IsAfter ns inputs before done → FitsBehind inputs done c
+one_seen : (inputs : ℕ) (done : List Command) (c : Command) (k : ℕ) → FitsBehind inputs done c
+    → measured (c ∷ []) k ≡ true → k < inputs + prepared done
+unfolding measured
+one_seen inputs done (Meas q a s t) k fits is =
+    let same = eqb-true k q (sym (or-false (nat_eq k q)) ∙ is) in
+    let there = fits.0.is_there in
+    omega arith
+one_seen inputs done _ k fits is = absurd (cc is)
+
+command_there : (ns : List Name) (inputs : ℕ) (before : Lines) (done : List Command) (c : Command)
+    → AreThere ns inputs before done → FitsBehind inputs done c
     → inputs + prepared (done ++ c ∷ []) ≤ length ns
-    → IsAfter ns inputs (before ++ command_line ns c ∷ []) (done ++ c ∷ [])
-command_after ns inputs before done c h fits within =
+    → AreThere ns inputs (before ++ command_line ns c ∷ []) (done ++ c ∷ [])
+command_there ns inputs before done c h fits within =
     let here = command_line ns c in
     let is = said ns c in
     record {
-      defined = names_at-line is_defining before here
-          ∙ defined_after ns inputs before done c h.defined fits within;
-      measured =
-          filter_map-append (operand_at 0 is_measuring) before (here ∷ [])
-          ∙ rw (
-            h.measured,
-            is.0,
-            filter_map-append measured_by done (c ∷ []),
-            map-append (name_at ns) (measured_order done) (measured_order (c ∷ [])),
-          ) refl;
-      none = names_at-line is_output before here ∙ rw is.1 h.none;
-      takes = λ head. rw (last_head-more before here) (is.3 head);
-      count =
-          let count = h.count in
-          let one = is.4 in
-          let lines = length-append (spelled_commands before) (filter_map spelled_command (here ∷ [])) in
-          let commands = length-append done (c ∷ []) in
-          ap length (filter_map-append spelled_command before (here ∷ []))
-          ∙ omega (arith, count, lines, commands, one);
+      after = record {
+        defined = names_at-line is_defining before here
+            ∙ defined_after ns inputs before done c h.after.defined fits within;
+        measured =
+            filter_map-append (operand_at 0 is_measuring) before (here ∷ [])
+            ∙ rw (
+              h.after.measured,
+              is.0,
+              filter_map-append measured_by done (c ∷ []),
+              map-append (name_at ns) (measured_order done) (measured_order (c ∷ [])),
+            ) refl;
+        none = names_at-line is_output before here ∙ rw is.1 h.after.none;
+        takes = λ head. rw (last_head-more before here) (is.3 head);
+        count =
+            let count = h.after.count in
+            let one = is.4 in
+            let lines = length-append (spelled_commands before) (filter_map spelled_command (here ∷ [])) in
+            let commands = length-append done (c ∷ []) in
+            ap length (filter_map-append spelled_command before (here ∷ []))
+            ∙ omega (arith, count, lines, commands, one);
+      };
+      names = h.names;
+      within = within;
+      seen = λ k seen.
+          let more = prepared-append done (c ∷ []) in
+          elim (or_cases (measured done k) (measured (c ∷ []) k)
+          (sym (measured-append done (c ∷ []) k) ∙ seen)) [
+            | inl early ↦ let lt = h.seen k early in omega (arith, lt, more)
+            | inr now ↦ let lt = one_seen inputs done c k fits now in omega (arith, lt, more)
+          ];
     }
 
-inputs_after : (ns : List Name) (inputs : ℕ) → IsAfter ns inputs ((codes "in" ∷ take inputs ns) ∷ []) []
+-- every qubit that a command names has a name
+command_named : (ns : List Name) (inputs : ℕ) (before : Lines) (done : List Command) (c : Command)
+    → AreThere ns inputs before done → FitsBehind inputs done c
+    → inputs + prepared (done ++ c ∷ []) ≤ length ns → IsNamed (length ns) c
 unfolding prepared
-inputs_after ns inputs = record {
-  defined =
-      let none : inputs + 0 ≡ inputs = omega arith in
-      rw none (append-nil (take inputs ns ++ []) ∙ append-nil (take inputs ns));
-  measured = refl;
-  none = refl;
-  takes = λ h. refl;
-  count = refl;
-}
+command_named ns inputs before done (Prep q) h fits within =
+    let more = prepared-append done (Prep q ∷ []) in
+    omega arith
+command_named ns inputs before done (Ent q r) h fits within =
+    let top = h.within in
+    let first = fits.0.is_there in
+    let second = fits.1.is_there in
+    (omega arith, omega arith)
+command_named ns inputs before done (Meas q a s t) h fits within =
+    let top = h.within in
+    let first = fits.0.is_there in (
+      omega arith,
+      (signal_members ns inputs before done s h fits.1).below,
+      (signal_members ns inputs before done t h fits.2).below,
+    )
+command_named ns inputs before done (FixX q s) h fits within =
+    let top = h.within in
+    let first = fits.0.is_there in
+    (omega arith, (signal_members ns inputs before done s h fits.1).below)
+command_named ns inputs before done (FixZ q s) h fits within =
+    let top = h.within in
+    let first = fits.0.is_there in
+    (omega arith, (signal_members ns inputs before done s h fits.1).below)
+
+inputs_there : (ns : List Name) (inputs : ℕ) → AreNames ns → inputs ≤ length ns
+    → AreThere ns inputs ((codes "in" ∷ take inputs ns) ∷ []) []
+unfolding prepared measured
+inputs_there ns inputs valid within =
+    let none : inputs + 0 ≡ inputs = omega arith in
+    record {
+      after = record {
+        defined = rw none (append-nil (take inputs ns ++ []) ∙ append-nil (take inputs ns));
+        measured = refl;
+        none = refl;
+        takes = λ h. refl;
+        count = refl;
+      };
+      names = valid;
+      within = omega arith;
+      seen = λ k is. absurd (cc is);
+    }
 
 -- nothing is against the inputs
 inputs_clean : (constants : Bool) (ws ps : List Name) → list_all is_name ps ≡ true
@@ -364,21 +419,10 @@ module _ (half : ℕ) (p : Pattern) (h : IsPattern half p) where
   abbrev permits : Bool
   permits = permits_constants (pattern_version p)
 
-  there : (before : Lines) (done cs : List Command) → p.commands ≡ done ++ cs
-      → IsAfter p.names p.inputs before done → AreThere p.names p.inputs before done
-  there before done cs e after =
-      let whole = ap prepared e ∙ prepared-append done cs in
-      let qubits = h.valid.qubits in
-      record {
-        after = after;
-        names = h.valid.names;
-        within = omega (arith, whole, qubits);
-        seen = λ k is. measured_there p.inputs done cs k (rw e at h.valid.commands) is;
-      }
-
   -- the lines of the last commands, behind those before
   record AreLines (before : Lines) (cs : List Command) : Type 0 where
-    after : IsAfter p.names p.inputs (before ++ map (command_line p.names) cs) p.commands
+    there : AreThere p.names p.inputs (before ++ map (command_line p.names) cs) p.commands
+    named : AreNamed (length p.names) cs
     clean : (tail : Lines)
         → Clean (rules_with permits) (before ++ map (command_line p.names) cs) tail
         → Clean (rules_with permits) before (map (command_line p.names) cs ++ tail)
@@ -387,15 +431,16 @@ module _ (half : ℕ) (p : Pattern) (h : IsPattern half p) where
         (filter_map spelled_command (map (command_line p.names) cs)) ≡ cs
 
   commands_are : (before : Lines) (done cs : List Command) → p.commands ≡ done ++ cs
-      → IsAfter p.names p.inputs before done → AreNamed (length p.names) cs → AllTyped half cs
+      → AreThere p.names p.inputs before done → AllTyped half cs
       → (list_any has_constant cs ≡ true → permits ≡ true) → AreLines before cs
-  commands_are before done [] e after named typed constants = record {
-    after = rw (append-nil before, e, append-nil done) after;
+  commands_are before done [] e there typed constants = record {
+    there = rw (append-nil before, e, append-nil done) there;
+    named = tt;
     clean = λ tail clean. rw (append-nil before) at clean;
     written = refl;
     back = refl;
   }
-  commands_are before done (c ∷ cs) e after named typed constants =
+  commands_are before done (c ∷ cs) e there typed constants =
       let line = command_line p.names c in
       let lines = map (command_line p.names) cs in
       let next : p.commands ≡ (done ++ c ∷ []) ++ cs = e ∙ sym (append_assoc done (c ∷ []) cs) in
@@ -406,31 +451,37 @@ module _ (half : ℕ) (p : Pattern) (h : IsPattern half p) where
       let qubits = h.valid.qubits in
       let within : p.inputs + prepared (done ++ c ∷ []) ≤ length p.names =
       omega (arith, whole, qubits) in
+      let named = command_named p.names p.inputs before done c there fits within in
       let few : length p.commands ≤ 262144 = h.few in
       let long = ap length e ∙ length-append done (c ∷ cs) in
       let room : length done < 262144 = omega (arith, few, long) in
       let rest = commands_are (before ++ line ∷ []) (done ++ c ∷ []) cs next
-      (command_after p.names p.inputs before done c after fits within) named.1 typed.1
+      (command_there p.names p.inputs before done c there fits within) typed.1
       (λ some. constants (or_right (has_constant c) (list_any has_constant cs) some)) in
       record {
-        after = rw along at rest.after;
+        there = rw along at rest.there;
+        named = (named, rest.named);
         clean = λ tail clean.
             more before line (lines ++ tail)
-            (command_clean permits half p.names p.inputs before done c
-            (there before done (c ∷ cs) e after) h.permitted within room fits typed.0
+            (command_clean permits half p.names p.inputs before done c there h.permitted within room
+            fits typed.0
             (λ some. constants (or_left (has_constant c) (list_any has_constant cs) some)))
             (said p.names c).5 (rest.clean tail (rw along clean));
         written =
-            rw (command_written half p.names h.valid.names h.permitted c named.0 typed.0, rest.written)
+            rw (command_written half p.names h.valid.names h.permitted c named typed.0, rest.written)
             refl;
         back = command_more (command_by half p.names) (spelled_command line) c cs lines line refl
-            (command_back half p.names h.valid.names h.permitted c named.0 typed.0) rest.back;
+            (command_back half p.names h.valid.names h.permitted c named typed.0) rest.back;
       }
 
   all_are : AreLines ((codes "in" ∷ take p.inputs p.names) ∷ []) p.commands
   all_are =
+      let qubits = h.valid.qubits in
       commands_are ((codes "in" ∷ take p.inputs p.names) ∷ []) [] p.commands refl
-      (inputs_after p.names p.inputs) (pattern_named p h.valid) h.typed (λ e. rw e refl)
+      (inputs_there p.names p.inputs h.valid.names (omega (arith, qubits))) h.typed (λ e. rw e refl)
+
+  pub pattern_named : AreNamed (length p.names) p.commands
+  pattern_named = all_are.named
 
   pattern_clean : Clean (rules_with permits) [] (pattern_lines p)
   pattern_clean =
@@ -445,7 +496,6 @@ module _ (half : ℕ) (p : Pattern) (h : IsPattern half p) where
       let distinct = distinct_part ins (drop p.inputs ns)
       (rw (take-append-drop p.inputs ns) valid.distinct) in
       let long = length-take-le p.inputs ns (omega (arith, qubits)) in
-      let is = there lines p.commands [] (sym (append-nil p.commands)) all_are.after in
       more [] (codes "in" ∷ ins) (map (command_line ns) p.commands ++ out ∷ end) (
         refl,
         inputs_clean permits [] ins
@@ -454,8 +504,8 @@ module _ (half : ℕ) (p : Pattern) (h : IsPattern half p) where
       )
       refl
       (all_are.clean (out ∷ end) (more lines out end (
-        rw (all_are.after.takes (Some Out)) refl,
-        outputs_clean permits ns p.inputs lines p.commands is (sym qubits) [] p.outputs h.valid.outputs,
+        rw (all_are.there.after.takes (Some Out)) refl,
+        outputs_clean permits ns p.inputs lines p.commands all_are.there (sym qubits) [] p.outputs h.valid.outputs,
       )
       refl
       (last (lines ++ out ∷ []) (codes "end" ∷ []) (rw (last_head-more lines out) refl, refl) refl)))
@@ -487,7 +537,7 @@ module _ (half : ℕ) (p : Pattern) (h : IsPattern half p) where
       let lines = pattern_lines p in
       let defined : names_at is_defining lines [] ≡ ns =
       append-nil (flat_map (names_in is_defining) lines)
-      ∙ flat_map-append (names_in is_defining) begun closed ∙ all_are.after.defined
+      ∙ flat_map-append (names_in is_defining) begun closed ∙ all_are.there.after.defined
       ∙ take_all (p.inputs + prepared p.commands) ns (omega (arith, qubits)) in
       let inputs : names_at is_input lines [] ≡ ins =
       append-nil (flat_map (names_in is_input) lines)
@@ -498,7 +548,7 @@ module _ (half : ℕ) (p : Pattern) (h : IsPattern half p) where
       append-nil (flat_map (names_in is_output) lines)
       ∙ flat_map-append (names_in is_output) begun closed
       ∙ ap (λ (xs : Words). xs ++ (outputs ++ []))
-      (sym (append-nil (flat_map (names_in is_output) begun)) ∙ all_are.after.none)
+      (sym (append-nil (flat_map (names_in is_output) begun)) ∙ all_are.there.after.none)
       ∙ append-nil outputs in
       let spelled : spelled_commands lines ≡ filter_map spelled_command commands =
       filter_map-append spelled_command commands closed

@@ -6,15 +6,14 @@ use Rattle.mc_write.specs.Text.{line_text}
 use Rattle.mc_text.specs.Headers.{header_words}
 use Rattle.mc_pattern.specs.Commands.{plain_command}
 use Rattle.mc_pattern_text.specs.Canonical.{pattern_version}
-use Rattle.mc_pattern_text.proofs.NamedCommands.{pattern_named}
-use Rattle.mc_pattern_text.proofs.ReadBack.{printed, any_map}
+use Rattle.mc_pattern_text.proofs.ReadBack.{printed, any_map, pattern_named}
 use Rattle.mc_pattern_text.proofs.print.print_pattern.Goals as goal
 
 pub print_commands-requires : goal.print_commands-requires
 print_commands-requires g c = (
   omega arith,
   rw (c.names-names.ensures.names, c.commands-commands.ensures)
-      (pattern_named c.args.pattern.now c.names-names.ensures.valid.valid),
+      (pattern_named g.row.H c.args.pattern.now c.names-names.ensures.valid),
 )
 
 pub returns : goal.returns
