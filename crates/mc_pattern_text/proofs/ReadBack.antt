@@ -24,7 +24,7 @@ use Rattle.mc_model.specs.Pattern.{measured_by, measured_order}
 use Rattle.mc_model.specs.Signals.{Signal}
 use Rattle.mc_model.specs.Steps.{is_permitted}
 use Rattle.mc_model.proofs.StepLemmas.{permitted_at_most}
-use Rattle.mc_model.specs.Valid.{prepared, FitsBehind, measured}
+use Rattle.mc_model.specs.Valid.{prepared, FitsBehind, measured, IsLive, SignalFits}
 use Rattle.mc_model.proofs.ValidLemmas.{prepared-append, measured-append}
 use Rattle.mc_pattern.specs.Patterns.{IsPattern}
 use Rattle.mc_pattern.specs.Typed.{IsTyped, AllTyped, IsSet}
@@ -49,7 +49,6 @@ use Rattle.mc_pattern_text.specs.Judge.{permits_constants}
 use Rattle.mc_pattern_text.specs.Written.{IsNamed, AreNamed}
 use Rattle.mc_pattern_text.specs.Canonical.{pattern_version, signal_words, marked, command_line}
 use Rattle.mc_pattern_text.specs.Canonical.{pattern_lines, pattern_text, behind_header}
-use Rattle.mc_pattern_text.proofs.NamedSignals.{words_back}
 use Rattle.mc_pattern_text.proofs.CleanCommands.{AreThere, front_more, known_clean, measured_held}
 use Rattle.mc_pattern_text.proofs.CleanCommands.{held_written, signal_members}
 use Rattle.mc_pattern_text.proofs.CleanLines.{signal_unmarked, decimal_no_mark, command_clean}
@@ -63,11 +62,12 @@ use Rattle.mc_pattern.proofs.Members.{below_by, counts_member, member_counts}
 use Rattle.mc_text.specs.declared.head.Head.TheVariants.{Out}
 use Rattle.mc_text.specs.Heads.{head_in, is_end, head_of}
 use Rattle.mc_text.proofs.Members.{first_new}
-use Rattle.mc_rows.proofs.Lines.{all_front, among}
+use Rattle.mc_rows.proofs.Lines.{all_front, among, set_back}
 use Rattle.mc_text.proofs.Done.{last_head-more}
 use Rattle.mc_text.proofs.NamesHere.{names_here}
 use Rattle.mc_write.specs.Text.{line_text, text_of}
 use Rattle.std.proofs.Math.Bool.{or-false}
+use Rattle.mc_text.specs.Rules.{number_in}
 
 -- ---- what is printed
 
@@ -135,6 +135,15 @@ module _ (half : ℕ) (ns : List Name) (valid : AreNames ns) (permitted : IsTrue
   command_written (FixZ q s) named typed =
       rw (at_written ns q valid named.0, set_written ns s.members s.constant valid named.1) refl
 
+  number : (q : ℕ) → q < length ns → number_in ns (name_at ns q) ≡ q
+  number q lt = number-name_at ns q valid.distinct lt
+
+  words_back : (s : Signal) → IsSet s → All (λ k. k < length ns) s.members
+      → signal_in ns (signal_words ns s) ≡ s
+  words_back s set below =
+      let both = set_back ns s.members s.constant valid below set in
+      ap₂ (λ (members : List ℕ) (b : Bool). record { members = members; constant = b }) both.0 both.1
+
   measured_back : (q a : ℕ) (s t : Signal) → IsNamed (length ns) (Meas q a s t)
       → IsTyped half (Meas q a s t)
       → option_map (command_by half ns) (spelled_command (command_line ns (Meas q a s t)))
@@ -150,10 +159,10 @@ module _ (half : ℕ) (ns : List Name) (valid : AreNames ns) (permitted : IsTrue
       (signal_unmarked ns t.members t.constant valid named.2) in
       ap₂ (λ (xs ys : Words). Some (command_by half ns (spelled_m w (decimal a) xs ys))) both.0 both.1
       ∙ rw (
-        number-name_at ns q valid.distinct named.0,
+        number q named.0,
         (angle-decimal half a permitted typed.0).1,
-        words_back ns s valid typed.1 named.1,
-        words_back ns t valid typed.2 named.2,
+        words_back s typed.1 named.1,
+        words_back t typed.2 named.2,
       ) refl
 
   fixed_back : (head : List ℕ) (q : ℕ) (s : Signal) → is_correcting (head_of head) ≡ true
@@ -162,23 +171,18 @@ module _ (half : ℕ) (ns : List Name) (valid : AreNames ns) (permitted : IsTrue
   fixed_back head q s gate set below =
       ap (signal_in ns) (correction_at [] head (name_at ns q) (signal_words ns s) gate
       (signal_unmarked ns s.members s.constant valid below)).s_is
-      ∙ words_back ns s valid set below
+      ∙ words_back s set below
 
   command_back : (c : Command) → IsNamed (length ns) c → IsTyped half c
       → option_map (command_by half ns) (spelled_command (command_line ns c)) ≡ Some c
-  command_back (Prep q) named typed = rw (number-name_at ns q valid.distinct named) refl
+  command_back (Prep q) named typed = ap (λ k. Some (Prep k)) (number q named)
   command_back (Ent q r) named typed =
-      rw (
-        number-name_at ns q valid.distinct named.0,
-        number-name_at ns r valid.distinct named.1,
-      ) refl
+      ap₂ (λ k l. Some (Ent k l)) (number q named.0) (number r named.1)
   command_back (Meas q a s t) named typed = measured_back q a s t named typed
   command_back (FixX q s) named typed =
-      ap₂ (λ k u. Some (FixX k u)) (number-name_at ns q valid.distinct named.0)
-      (fixed_back (codes "x") q s refl typed named.1)
+      ap₂ (λ k u. Some (FixX k u)) (number q named.0) (fixed_back (codes "x") q s refl typed named.1)
   command_back (FixZ q s) named typed =
-      ap₂ (λ k u. Some (FixZ k u)) (number-name_at ns q valid.distinct named.0)
-      (fixed_back (codes "z") q s refl typed named.1)
+      ap₂ (λ k u. Some (FixZ k u)) (number q named.0) (fixed_back (codes "z") q s refl typed named.1)
 
 command_more : (f : Spelled → Command) (o : Option Spelled) (c : Command) (ds : List Command)
     (lines : Lines) (here : Words) → spelled_command here ≡ o → option_map f o ≡ Some c
@@ -203,32 +207,6 @@ no_inputs : (ns : List Name) (cs : List Command)
 no_inputs ns [] = refl
 no_inputs ns (c ∷ cs) = rw (said ns c).2 (no_inputs ns cs)
 
--- the names that are defined behind the line of one command more
-same_count : (ns : List Name) (inputs : ℕ) (done : List Command) (c : Command)
-    → prepared (c ∷ []) ≡ 0 → take (inputs + prepared done) ns
-    ≡ take (inputs + prepared (done ++ c ∷ [])) ns
-same_count ns inputs done c none =
-    let both = prepared-append done (c ∷ []) in
-    let same : prepared done ≡ prepared (done ++ c ∷ []) = omega (arith, both, none) in
-    rw same refl
-
-defined_after : (ns : List Name) (inputs : ℕ) (before : Lines) (done : List Command) (c : Command)
-    → names_at is_defining before [] ≡ take (inputs + prepared done) ns
-    → FitsBehind inputs done c → inputs + prepared (done ++ c ∷ []) ≤ length ns
-    → names_at is_defining before (command_line ns c)
-    ≡ take (inputs + prepared (done ++ c ∷ [])) ns
-unfolding prepared
-defined_after ns inputs before done (Prep q) defined fits within =
-    let m = inputs + prepared done in
-    let both = prepared-append done (Prep q ∷ []) in
-    let lt : m < length ns = omega (arith, within, both) in
-    let next : inputs + prepared (done ++ Prep q ∷ []) ≡ suc m = omega (arith, both) in
-    ap (λ (names : List Name). names ++ name_at ns q ∷ [])
-    (sym (append-nil (flat_map (names_in is_defining) before)) ∙ defined)
-    ∙ rw (next, front_more ns m lt, fits) refl
-defined_after ns inputs before done _ defined fits within =
-    defined ∙ same_count ns inputs done _ refl
-
 one_seen : (inputs : ℕ) (done : List Command) (c : Command) (k : ℕ) → FitsBehind inputs done c
     → measured (c ∷ []) k ≡ true → k < inputs + prepared done
 unfolding measured
@@ -238,74 +216,87 @@ one_seen inputs done (Meas q a s t) k fits is =
     omega arith
 one_seen inputs done _ k fits is = absurd (cc is)
 
-command_there : (ns : List Name) (inputs : ℕ) (before : Lines) (done : List Command) (c : Command)
-    → AreThere ns inputs before done → FitsBehind inputs done c
-    → inputs + prepared (done ++ c ∷ []) ≤ length ns
-    → AreThere ns inputs (before ++ command_line ns c ∷ []) (done ++ c ∷ [])
-command_there ns inputs before done c h fits within =
-    let here = command_line ns c in
-    let is = said ns c in
-    record {
-      after = record {
-        defined = names_at-line is_defining before here
-            ∙ defined_after ns inputs before done c h.after.defined fits within;
-        measured =
-            filter_map-append (operand_at 0 is_measuring) before (here ∷ [])
-            ∙ rw (
-              h.after.measured,
-              is.0,
-              filter_map-append measured_by done (c ∷ []),
-              map-append (name_at ns) (measured_order done) (measured_order (c ∷ [])),
-            ) refl;
-        none = names_at-line is_output before here ∙ rw is.1 h.after.none;
-        takes = λ head. rw (last_head-more before here) (is.3 head);
-        count =
-            let count = h.after.count in
-            let one = is.4 in
-            let lines = length-append (spelled_commands before) (filter_map spelled_command (here ∷ [])) in
-            let commands = length-append done (c ∷ []) in
-            ap length (filter_map-append spelled_command before (here ∷ []))
-            ∙ omega (arith, count, lines, commands, one);
-      };
-      names = h.names;
-      within = within;
-      seen = λ k seen.
-          let more = prepared-append done (c ∷ []) in
-          elim (or_cases (measured done k) (measured (c ∷ []) k)
-          (sym (measured-append done (c ∷ []) k) ∙ seen)) [
-            | inl early ↦ let lt = h.seen k early in omega (arith, lt, more)
-            | inr now ↦ let lt = one_seen inputs done c k fits now in omega (arith, lt, more)
-          ];
-    }
+-- one command more
+module _ (ns : List Name) (inputs : ℕ) (before : Lines) (done : List Command)
+    (h : AreThere ns inputs before done) where
+  same_count : (c : Command) → prepared (c ∷ []) ≡ 0
+      → take (inputs + prepared done) ns ≡ take (inputs + prepared (done ++ c ∷ [])) ns
+  same_count c none =
+      let both = prepared-append done (c ∷ []) in
+      let same : prepared done ≡ prepared (done ++ c ∷ []) = omega (arith, both, none) in
+      rw same refl
 
--- every qubit that a command names has a name
-command_named : (ns : List Name) (inputs : ℕ) (before : Lines) (done : List Command) (c : Command)
-    → AreThere ns inputs before done → FitsBehind inputs done c
-    → inputs + prepared (done ++ c ∷ []) ≤ length ns → IsNamed (length ns) c
-unfolding prepared
-command_named ns inputs before done (Prep q) h fits within =
-    let more = prepared-append done (Prep q ∷ []) in
-    omega arith
-command_named ns inputs before done (Ent q r) h fits within =
-    let top = h.within in
-    let first = fits.0.is_there in
-    let second = fits.1.is_there in
-    (omega arith, omega arith)
-command_named ns inputs before done (Meas q a s t) h fits within =
-    let top = h.within in
-    let first = fits.0.is_there in (
-      omega arith,
-      (signal_members ns inputs before done s h fits.1).below,
-      (signal_members ns inputs before done t h fits.2).below,
-    )
-command_named ns inputs before done (FixX q s) h fits within =
-    let top = h.within in
-    let first = fits.0.is_there in
-    (omega arith, (signal_members ns inputs before done s h fits.1).below)
-command_named ns inputs before done (FixZ q s) h fits within =
-    let top = h.within in
-    let first = fits.0.is_there in
-    (omega arith, (signal_members ns inputs before done s h fits.1).below)
+  -- the names that are defined behind its line
+  defined_after : (c : Command) → FitsBehind inputs done c
+      → inputs + prepared (done ++ c ∷ []) ≤ length ns
+      → names_at is_defining before (command_line ns c)
+      ≡ take (inputs + prepared (done ++ c ∷ [])) ns
+  unfolding prepared
+  defined_after (Prep q) fits within =
+      let m = inputs + prepared done in
+      let both = prepared-append done (Prep q ∷ []) in
+      let lt : m < length ns = omega (arith, within, both) in
+      let next : inputs + prepared (done ++ Prep q ∷ []) ≡ suc m = omega (arith, both) in
+      ap (λ (names : List Name). names ++ name_at ns q ∷ [])
+      (sym (append-nil (flat_map (names_in is_defining) before)) ∙ h.after.defined)
+      ∙ rw (next, front_more ns m lt, fits) refl
+  defined_after _ fits within = h.after.defined ∙ same_count _ refl
+
+  command_there : (c : Command) → FitsBehind inputs done c
+      → inputs + prepared (done ++ c ∷ []) ≤ length ns
+      → AreThere ns inputs (before ++ command_line ns c ∷ []) (done ++ c ∷ [])
+  command_there c fits within =
+      let here = command_line ns c in
+      let is = said ns c in
+      record {
+        after = record {
+          defined = names_at-line is_defining before here ∙ defined_after c fits within;
+          measured =
+              filter_map-append (operand_at 0 is_measuring) before (here ∷ [])
+              ∙ rw (
+                h.after.measured,
+                is.0,
+                filter_map-append measured_by done (c ∷ []),
+                map-append (name_at ns) (measured_order done) (measured_order (c ∷ [])),
+              ) refl;
+          none = names_at-line is_output before here ∙ rw is.1 h.after.none;
+          takes = λ head. rw (last_head-more before here) (is.3 head);
+          count =
+              let count = h.after.count in
+              let one = is.4 in
+              let lines = length-append (spelled_commands before)
+              (filter_map spelled_command (here ∷ [])) in
+              let commands = length-append done (c ∷ []) in
+              ap length (filter_map-append spelled_command before (here ∷ []))
+              ∙ omega (arith, count, lines, commands, one);
+        };
+        names = h.names;
+        within = within;
+        seen = λ k seen.
+            let more = prepared-append done (c ∷ []) in
+            elim (or_cases (measured done k) (measured (c ∷ []) k)
+            (sym (measured-append done (c ∷ []) k) ∙ seen)) [
+              | inl early ↦ let lt = h.seen k early in omega (arith, lt, more)
+              | inr now ↦ let lt = one_seen inputs done c k fits now in omega (arith, lt, more)
+            ];
+      }
+
+  -- every qubit that it names has a name
+  below : (q : ℕ) → IsLive inputs done q → q < length ns
+  below q live = let top = h.within in let there = live.is_there in omega arith
+
+  members : (s : Signal) → SignalFits done s → All (λ q. q < length ns) s.members
+  members s fits = (signal_members ns inputs before done s h fits).below
+
+  command_named : (c : Command) → FitsBehind inputs done c
+      → inputs + prepared (done ++ c ∷ []) ≤ length ns → IsNamed (length ns) c
+  unfolding prepared
+  command_named (Prep q) fits within =
+      let more = prepared-append done (Prep q ∷ []) in omega arith
+  command_named (Ent q r) fits within = (below q fits.0, below r fits.1)
+  command_named (Meas q a s t) fits within = (below q fits.0, members s fits.1, members t fits.2)
+  command_named (FixX q s) fits within = (below q fits.0, members s fits.1)
+  command_named (FixZ q s) fits within = (below q fits.0, members s fits.1)
 
 inputs_there : (ns : List Name) (inputs : ℕ) → AreNames ns → inputs ≤ length ns
     → AreThere ns inputs ((codes "in" ∷ take inputs ns) ∷ []) []
@@ -451,12 +442,12 @@ module _ (half : ℕ) (p : Pattern) (h : IsPattern half p) where
       let qubits = h.valid.qubits in
       let within : p.inputs + prepared (done ++ c ∷ []) ≤ length p.names =
       omega (arith, whole, qubits) in
-      let named = command_named p.names p.inputs before done c there fits within in
+      let named = command_named p.names p.inputs before done there c fits within in
       let few : length p.commands ≤ 262144 = h.few in
       let long = ap length e ∙ length-append done (c ∷ cs) in
       let room : length done < 262144 = omega (arith, few, long) in
       let rest = commands_are (before ++ line ∷ []) (done ++ c ∷ []) cs next
-      (command_there p.names p.inputs before done c there fits within) typed.1
+      (command_there p.names p.inputs before done there c fits within) typed.1
       (λ some. constants (or_right (has_constant c) (list_any has_constant cs) some)) in
       record {
         there = rw along at rest.there;
