@@ -1,15 +1,15 @@
 -- What is kept of the words of a line goes on with one more word.
-use Rattle.std.proofs.Common.{◌≡◌, ℕ, ◌+◌, ◌<◌, List, [], ◌∷◌, ◌++◌, Bool, true, false}
-use Rattle.std.proofs.Common.{◌||◌, Option, Some, map, refl, sym, subst, ap}
+use Rattle.std.proofs.Common.{◌≡◌, ℕ, ◌+◌, ◌<◌, List, [], ◌∷◌, ◌++◌, Bool}
+use Rattle.std.proofs.Common.{true, false, ◌||◌, Option, Some, map, refl, sym, subst, ap}
 use Rattle.std.proofs.Common.{◌∙◌, arith, ◌==◌, nat_eq}
 use Rattle.std.proofs.lemmas.Bool.{cases_Bool, eq-eqb, eqb-true}
 use Rattle.std.proofs.Math.Bool.{or-false}
 use mathlib.Core.Logic.{inl, inr}
-use Rattle.std.proofs.lemmas.List.{append-nil, map-append}
-use Rattle.std.proofs.lemmas.List.Folds.{list_all-append, list_any-append}
+use Rattle.std.proofs.lemmas.List.{append-nil}
+use Rattle.std.proofs.lemmas.List.Folds.{list_any-append}
 use Rattle.mc_model.specs.Bits.{Bits}
 use Rattle.mc_model.specs.Numbers.{is_member}
-use Rattle.mc_model.specs.Names.{is_held, place_of}
+use Rattle.mc_model.specs.Names.{place_of}
 use Rattle.mc_model.specs.Signals.{Signal}
 use Rattle.mc_angle.specs.Angle.{angle_of}
 use Rattle.mc_text.specs.declared.head.Head.{Head}
@@ -20,14 +20,12 @@ use Rattle.mc_text.specs.Judged.{Words, Lines}
 use Rattle.mc_text.specs.Rules.{number_in}
 use Rattle.mc_text.specs.Lists.{operand_at, next_operand}
 use Rattle.mc_text.proofs.Going.{head_at}
-use Rattle.mc_text.proofs.Numbers.{held-place}
-use Rattle.mc_text.proofs.Kept.{held_more, place-more, operand_at-word}
+use Rattle.mc_text.proofs.Kept.{held_more, numbers-word, place-more, operand_at-word}
 use Rattle.mc_rows.specs.Rows.{named}
 use Rattle.mc_pattern_text.specs.declared.reader.Operands.{Operands}
 use Rattle.mc_pattern_text.specs.Roles.{role_of, is_entangling, is_measuring, is_command}
 use Rattle.mc_pattern_text.specs.Value.{first_signal, second_signal, first_of, second_of}
-use Rattle.mc_pattern_text.specs.Kept.{AreMarked, IsSpelled, AreOperands}
-use Rattle.mc_pattern_text.specs.Kept.{Joins, Fills}
+use Rattle.mc_pattern_text.specs.Kept.{AreMarked, IsSpelled, AreOperands, Joins, Fills}
 use Rattle.mc_pattern_text.proofs.Sets.{set_stays}
 use Rattle.mc_pattern_text.proofs.Under.{added-word}
 
@@ -47,16 +45,14 @@ pub marked-word : (names list : List (List ℕ)) (marks marks' : Bits) (word : L
     → AreMarked names list marks → place_of names word ≡ Some q
     → ((r : ℕ) → marks' r ≡ marks r || nat_eq r q) → AreMarked names (list ++ word ∷ []) marks'
 marked-word names list marks marks' word q are place more =
-    let held = held-place names word q place in
-    let number : number_in names word ≡ q = rw place refl in
-    let longer = map-append (number_in names) list (word ∷ []) in
+    let numbers = map (number_in names) list in
+    let longer = numbers-word names list numbers word q place
+    (record { held = are.held; numbers_are = refl }) in
     record {
-      held = list_all-append (is_held names) list (word ∷ []) ∙ rw (are.held, held) refl;
+      held = longer.held;
       marked = λ r.
-          let all : is_member (map (number_in names) (list ++ word ∷ [])) r
-          ≡ marks r || nat_eq r q =
-          rw (longer, number, member-last (map (number_in names) list) q r, are.marked r) refl in
-          more r ∙ sym all;
+          more r ∙ rw (are.marked r) (sym (member-last numbers q r))
+          ∙ ap (λ ns. is_member ns r) longer.numbers_are;
     }
 
 -- the words of a signal under more names, and with one more term

@@ -1,6 +1,6 @@
 -- The definitions, computed on small texts: each fault that a pattern can meet, with its place.
-use Rattle.std.specs.Prelude.{◌≡◌, ℕ, List, [], ◌∷◌, codes, replicate, Bool, true, false}
-use Rattle.std.specs.Prelude.{Option, None, Some, refl, map}
+use Rattle.std.specs.Prelude.{◌≡◌, ℕ, List, [], ◌∷◌, codes, replicate, Bool, true}
+use Rattle.std.specs.Prelude.{false, Option, None, Some, refl, map}
 use Rattle.mc_lex.specs.Lines.{lines_of, end_of}
 use Rattle.mc_model.specs.Signals.{Signal, no_signal, one_signal}
 use Rattle.mc_model.specs.Pattern.{Pattern, Prep, Ent, Meas, FixX, FixZ}

@@ -27,11 +27,9 @@ fn has_constant<const H: usize>(command: &Command<H>) -> bool
     ensures { result ≡ holds_constant (plain_command command.now) }
 {
     match command {
-        Command::Prep(_) => false,
-        Command::Ent(_, _) => false,
+        Command::Prep(_) | Command::Ent(_, _) => false,
         Command::Meas { s, t, .. } => s.constant() || t.constant(),
-        Command::FixX { s, .. } => s.constant(),
-        Command::FixZ { s, .. } => s.constant(),
+        Command::FixX { s, .. } | Command::FixZ { s, .. } => s.constant(),
     }
 }
 
