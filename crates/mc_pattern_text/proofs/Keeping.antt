@@ -1,11 +1,9 @@
 -- What is kept of the words of a line goes on with one more word.
 use Rattle.std.proofs.Common.{◌≡◌, ℕ, ◌+◌, ◌<◌, List, [], ◌∷◌, ◌++◌, Bool}
-use Rattle.std.proofs.Common.{true, false, ◌||◌, Option, Some, map, refl, sym, subst, ap}
-use Rattle.std.proofs.Common.{◌∙◌, arith, ◌==◌, nat_eq}
-use Rattle.std.proofs.lemmas.Bool.{cases_Bool, eq-eqb, eqb-true}
+use Rattle.std.proofs.Common.{true, ◌||◌, Option, Some, map, refl, sym, subst, ap, ◌∙◌}
+use Rattle.std.proofs.Common.{arith, nat_eq, eq-eqb, ne_eqb, inl, inr, append-nil}
+use Rattle.std.proofs.lemmas.Bool.{cases_Bool, cases_eq}
 use Rattle.std.proofs.Math.Bool.{or-false}
-use mathlib.Core.Logic.{inl, inr}
-use Rattle.std.proofs.lemmas.List.{append-nil}
 use Rattle.std.proofs.lemmas.List.Folds.{list_any-append}
 use Rattle.mc_model.specs.Bits.{Bits}
 use Rattle.mc_model.specs.Numbers.{is_member}
@@ -84,23 +82,21 @@ operand_cases : (n : ℕ) (test : Option Head → Bool) (before : Lines) (here :
     → ((a : List ℕ) → ¬ (p.count ≡ n + 1) → operand_at n test here ≡ Some a → P a)
     → (a : List ℕ) → operand_at n test (here ++ word ∷ []) ≡ Some a → P a
 operand_cases n test before here p word P few at comes stood a e =
-    by_tests (p.count == n + 1) (test p.head) refl refl
-  where
-    next : next_operand n test p (operand_at n test here) word ≡ Some a
-    next = rw at (operand_at-word n test before here word few) ∙ e
-
-    by_tests : (t s : Bool) → (p.count == n + 1) ≡ t → test p.head ≡ s → P a
-    by_tests true true one gate =
-        let is = rw (one, gate) at next in
-        let same : word ≡ a = cc is in
-        subst P same (comes (eqb-true p.count (n + 1) one) gate)
-    by_tests true false one gate =
-        let is : operand_at n test here ≡ Some a = rw (one, gate) at next in
-        let head : p.head ≡ head_in here = rw at (head_at before here) in
-        absurd (cc (operand_gate n test here a is, ap test head, gate))
-    by_tests false s one gate =
-        let is : operand_at n test here ≡ Some a = rw one at next in
-        stood a (λ same. absurd (cc (eq-eqb p.count (n + 1) same, one))) is
+    let next : next_operand n test p (operand_at n test here) word ≡ Some a =
+    rw at (operand_at-word n test before here word few) ∙ e in
+    elim (cases_eq p.count (n + 1)) [
+      | inl one ↦ elim (cases_Bool (test p.head)) [
+        | inl gate ↦
+            let is = rw (eq-eqb p.count (n + 1) one, gate) at next in
+            let same : word ≡ a = cc is in
+            subst P same (comes one gate)
+        | inr gate ↦
+            let is = rw (eq-eqb p.count (n + 1) one, gate) at next in
+            let head : p.head ≡ head_in here = rw at (head_at before here) in
+            absurd (cc (operand_gate n test here a is, ap test head, gate))
+      ]
+      | inr other ↦ stood a other (rw (ne_eqb p.count (n + 1) other) at next)
+    ]
 
 pub operands_more : {half : ℕ} (names more : List (List ℕ)) (o o' : Operands half)
     (before : Lines) (here : Words) (p : Point) (word : List ℕ) → p ≡ point_of before here

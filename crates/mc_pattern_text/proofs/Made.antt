@@ -1,9 +1,7 @@
 -- The command that a line makes is the one that it spells, and what is kept at the end is the pattern
 -- that the lines spell.
 use Rattle.std.proofs.Common.{◌≡◌, ℕ, List, [], ◌∷◌, ◌++◌, Option, Some, None}
-use Rattle.std.proofs.Common.{map, refl}
-use Rattle.std.specs.Option.{option_map}
-use Rattle.std.proofs.lemmas.List.{append-nil}
+use Rattle.std.proofs.Common.{map, refl, option_map, append-nil}
 use Rattle.mc_model.specs.Pattern.{Pattern}
 use Rattle.mc_text.specs.declared.head.Head.{Head}
 use Rattle.mc_text.specs.declared.head.Head.TheVariants.{N, E, M, X, Z}

@@ -1,8 +1,8 @@
 -- The pattern that lines make, with one more command.
 use Rattle.std.proofs.Common.{◌≡◌, ℕ, zero, suc, ◌*◌, ◌<◌, List, [], ◌∷◌}
 use Rattle.std.proofs.Common.{◌++◌, Bool, false, None, length, map, refl, sym, ap, ◌∙◌}
-use Rattle.std.proofs.Common.{arith, append_assoc, replicate, IsTrue, lt-ltb, ne_eqb}
-use Rattle.std.specs.Prelude.{ℤ, pos, negsuc, unsigned_abs}
+use Rattle.std.proofs.Common.{arith, append_assoc, replicate, IsTrue, lt-ltb, ne_eqb, ℤ, pos}
+use Rattle.std.proofs.Common.{negsuc, unsigned_abs}
 use Rattle.std.specs.Int.{int_rem_euclid}
 use Rattle.std.specs.List.{list_any, IsDistinct}
 use Rattle.std.proofs.lemmas.List.{length-map, map-append}

@@ -4,13 +4,12 @@ use Rattle.std.proofs.Common.{◌≡◌, ℕ, ◌+◌, ◌≤◌, Bool, true, fa
 use Rattle.std.proofs.Common.{◌∷◌, ◌++◌, length, map, take, codes, refl, sym, ap, ap₂}
 use Rattle.std.proofs.Common.{◌∙◌, append_assoc, arith, Option, Some, None, IsTrue, suc}
 use Rattle.std.proofs.Common.{◌<◌, not, ◌||◌, All, drop, length-append, nat_eq, cond}
-use Rattle.std.proofs.Common.{count_by, get_or, zero, subst}
-use Rattle.std.specs.Option.{option_map, unwrap_or}
-use Rattle.std.specs.Fmt.{decimal}
-use Rattle.std.specs.List.{filter_map, flat_map, list_all, list_any, IsDistinct}
+use Rattle.std.proofs.Common.{count_by, get_or, zero, subst, option_map, unwrap_or, decimal}
+use Rattle.std.proofs.Common.{filter_map, flat_map, append-nil, length-take-le, take_all}
+use Rattle.std.proofs.Common.{take-append-drop, eqb-true, inl, inr}
+use Rattle.std.specs.List.{list_all, list_any, IsDistinct}
 use Rattle.std.proofs.lemmas.Grind.{flat_map-append}
-use Rattle.std.proofs.lemmas.List.{append-nil, length-take-le, take_all, map-append}
-use Rattle.std.proofs.lemmas.List.{take-append-drop}
+use Rattle.std.proofs.lemmas.List.{map-append}
 use Rattle.std.proofs.lemmas.List.Elements.{filter_map-append}
 use Rattle.std.proofs.lemmas.List.Folds.{list_all-append}
 use Rattle.std.proofs.lemmas.List.Sums.{list_all-from_AllPass, sum_by-append}
@@ -55,8 +54,7 @@ use Rattle.mc_pattern_text.proofs.CleanLines.{signal_unmarked, decimal_no_mark, 
 use Rattle.mc_pattern_text.proofs.Under.{role_at, correction_at, signals_are}
 use Rattle.std.proofs.Math.Seq.{take-length}
 use Rattle.std.proofs.lemmas.Option.{slice_get-get_or}
-use Rattle.std.proofs.lemmas.Bool.{and_parts, cases_Bool, or_left, or_right, or_cases, eqb-true}
-use mathlib.Core.Logic.{inl, inr}
+use Rattle.std.proofs.lemmas.Bool.{and_parts, cases_Bool, or_left, or_right, or_cases}
 use Rattle.mc_model.specs.Numbers.{is_member, ListsOnce}
 use Rattle.mc_pattern.proofs.Members.{below_by, counts_member, member_counts}
 use Rattle.mc_text.specs.declared.head.Head.TheVariants.{Out}
