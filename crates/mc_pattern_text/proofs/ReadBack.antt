@@ -2,11 +2,11 @@
 -- as that pattern.
 use Rattle.std.proofs.Common.{◌≡◌, ℕ, ◌+◌, ◌≤◌, Bool, true, false, List, []}
 use Rattle.std.proofs.Common.{◌∷◌, ◌++◌, length, map, take, codes, refl, sym, ap, ap₂}
-use Rattle.std.proofs.Common.{◌∙◌, append_assoc, arith, Option, Some, None, IsTrue, suc}
-use Rattle.std.proofs.Common.{◌<◌, not, ◌||◌, All, drop, length-append, nat_eq, cond}
-use Rattle.std.proofs.Common.{count_by, get_or, zero, subst, option_map, unwrap_or, decimal}
-use Rattle.std.proofs.Common.{filter_map, flat_map, append-nil, length-take-le, take_all}
-use Rattle.std.proofs.Common.{take-append-drop, eqb-true, inl, inr}
+use Rattle.std.proofs.Common.{◌∙◌, append_assoc, arith, Option, Some, IsTrue, suc, ◌<◌}
+use Rattle.std.proofs.Common.{not, ◌||◌, All, drop, length-append, nat_eq, cond, count_by}
+use Rattle.std.proofs.Common.{get_or, zero, subst, unwrap_or, decimal, filter_map, flat_map}
+use Rattle.std.proofs.Common.{append-nil, length-take-le, take_all, take-append-drop, eqb-true, inl}
+use Rattle.std.proofs.Common.{inr}
 use Rattle.std.specs.List.{list_all, list_any, IsDistinct}
 use Rattle.std.proofs.lemmas.Grind.{flat_map-append}
 use Rattle.std.proofs.lemmas.List.{map-append}
@@ -41,8 +41,9 @@ use Rattle.mc_text.proofs.HeadersWritten.{header_written}
 use Rattle.mc_text.proofs.Written.{is_written, is_written_line}
 use Rattle.mc_pattern_text.specs.Roles.{is_defining, is_input, is_output, may_follow}
 use Rattle.mc_pattern_text.specs.Roles.{follows_command, is_measuring, is_correcting}
-use Rattle.mc_pattern_text.specs.Value.{first_signal, signal_in, Spelled, spelled_m}
-use Rattle.mc_pattern_text.specs.Value.{spelled_command, spelled_commands, command_by, pattern_of}
+use Rattle.mc_pattern_text.specs.Value.{first_signal, signal_in, Spelled, spelled_n, spelled_e}
+use Rattle.mc_pattern_text.specs.Value.{spelled_m, spelled_x, spelled_z, spelled_command}
+use Rattle.mc_pattern_text.specs.Value.{spelled_commands, command_by, pattern_of}
 use Rattle.mc_pattern_text.specs.Judge.{pattern_rules, measured_in, is_settled, rules_with}
 use Rattle.mc_pattern_text.specs.Judge.{permits_constants}
 use Rattle.mc_pattern_text.specs.Written.{IsNamed, AreNamed}
@@ -62,7 +63,7 @@ use Rattle.mc_text.specs.Heads.{head_in, is_end, head_of}
 use Rattle.mc_text.proofs.Members.{first_new}
 use Rattle.mc_rows.proofs.Lines.{all_front, among, set_back}
 use Rattle.mc_text.proofs.Done.{last_head-more}
-use Rattle.mc_text.proofs.NamesHere.{names_here}
+use Rattle.mc_text.proofs.NamesHere.{names_here, names_stay}
 use Rattle.mc_write.specs.Text.{line_text, text_of}
 use Rattle.std.proofs.Math.Bool.{or-false}
 use Rattle.mc_text.specs.Rules.{number_in}
@@ -142,54 +143,44 @@ module _ (half : ℕ) (ns : List Name) (valid : AreNames ns) (permitted : IsTrue
       let both = set_back ns s.members s.constant valid below set in
       ap₂ (λ (members : List ℕ) (b : Bool). record { members = members; constant = b }) both.0 both.1
 
-  measured_back : (q a : ℕ) (s t : Signal) → IsNamed (length ns) (Meas q a s t)
-      → IsTyped half (Meas q a s t)
-      → option_map (command_by half ns) (spelled_command (command_line ns (Meas q a s t)))
-      ≡ Some (Meas q a s t)
-  measured_back q a s t named typed =
-      let w = name_at ns q in
-      let no_w = name_no_mark w (is_name-name_at ns q valid named.0) in
-      let no_a = decimal_no_mark half a permitted typed.0 in
-      let ss = signal_words ns s in
-      let ts = signal_words ns t in
-      let both = signals_are [] w (decimal a) no_w no_a ss ts
-      (signal_unmarked ns s.members s.constant valid named.1)
-      (signal_unmarked ns t.members t.constant valid named.2) in
-      ap₂ (λ (xs ys : Words). Some (command_by half ns (spelled_m w (decimal a) xs ys))) both.0 both.1
-      ∙ rw (
-        number q named.0,
-        (angle-decimal half a permitted typed.0).1,
-        words_back s typed.1 named.1,
-        words_back t typed.2 named.2,
-      ) refl
-
-  fixed_back : (head : List ℕ) (q : ℕ) (s : Signal) → is_correcting (head_of head) ≡ true
-      → IsSet s → All (λ k. k < length ns) s.members
-      → signal_in ns (first_signal (head ∷ name_at ns q ∷ signal_words ns s)) ≡ s
-  fixed_back head q s gate set below =
-      ap (signal_in ns) (correction_at [] head (name_at ns q) (signal_words ns s) gate
+  fixed_words : (head : List ℕ) (q : ℕ) (s : Signal) → is_correcting (head_of head) ≡ true
+      → All (λ k. k < length ns) s.members
+      → first_signal (head ∷ name_at ns q ∷ signal_words ns s) ≡ signal_words ns s
+  fixed_words head q s gate below =
+      (correction_at [] head (name_at ns q) (signal_words ns s) gate
       (signal_unmarked ns s.members s.constant valid below)).s_is
-      ∙ words_back s set below
 
-  command_back : (c : Command) → IsNamed (length ns) c → IsTyped half c
-      → option_map (command_by half ns) (spelled_command (command_line ns c)) ≡ Some c
-  command_back (Prep q) named typed = ap (λ k. Some (Prep k)) (number q named)
+  command_back : (c : Command) → IsNamed (length ns) c → IsTyped half c → (one : Spelled)
+      × (spelled_command (command_line ns c) ≡ Some one) × (command_by half ns one ≡ c)
+  command_back (Prep q) named typed = (spelled_n (name_at ns q), refl, ap Prep (number q named))
   command_back (Ent q r) named typed =
-      ap₂ (λ k l. Some (Ent k l)) (number q named.0) (number r named.1)
-  command_back (Meas q a s t) named typed = measured_back q a s t named typed
-  command_back (FixX q s) named typed =
-      ap₂ (λ k u. Some (FixX k u)) (number q named.0) (fixed_back (codes "x") q s refl typed named.1)
-  command_back (FixZ q s) named typed =
-      ap₂ (λ k u. Some (FixZ k u)) (number q named.0) (fixed_back (codes "z") q s refl typed named.1)
-
-command_more : (f : Spelled → Command) (o : Option Spelled) (c : Command) (ds : List Command)
-    (lines : Lines) (here : Words) → spelled_command here ≡ o → option_map f o ≡ Some c
-    → map f (filter_map spelled_command lines) ≡ ds
-    → map f (filter_map spelled_command (here ∷ lines)) ≡ c ∷ ds
-command_more f None c ds lines here e one rest = absurd (cc one)
-command_more f (Some spelled) c ds lines here e one rest =
-    let same : f spelled ≡ c = cc one in
-    rw (e, same, rest) refl
+      (spelled_e (name_at ns q) (name_at ns r), refl, ap₂ Ent (number q named.0) (number r named.1))
+  command_back (Meas q a s t) named typed =
+      let w = name_at ns q in
+      let both = signals_are [] w (decimal a)
+      (name_no_mark w (is_name-name_at ns q valid named.0))
+      (decimal_no_mark half a permitted typed.0) (signal_words ns s) (signal_words ns t)
+      (signal_unmarked ns s.members s.constant valid named.1)
+      (signal_unmarked ns t.members t.constant valid named.2) in (
+        spelled_m w (decimal a) (signal_words ns s) (signal_words ns t),
+        ap₂ (λ (xs ys : Words). Some (spelled_m w (decimal a) xs ys)) both.0 both.1,
+        rw (
+          number q named.0,
+          (angle-decimal half a permitted typed.0).1,
+          words_back s typed.1 named.1,
+          words_back t typed.2 named.2,
+        ) refl,
+      )
+  command_back (FixX q s) named typed = (
+    spelled_x (name_at ns q) (signal_words ns s),
+    ap (λ words. Some (spelled_x (name_at ns q) words)) (fixed_words (codes "x") q s refl named.1),
+    ap₂ FixX (number q named.0) (words_back s typed named.1),
+  )
+  command_back (FixZ q s) named typed = (
+    spelled_z (name_at ns q) (signal_words ns s),
+    ap (λ words. Some (spelled_z (name_at ns q) words)) (fixed_words (codes "z") q s refl named.1),
+    ap₂ FixZ (number q named.0) (words_back s typed named.1),
+  )
 
 -- what the line of a command says, whatever its words are
 said : (ns : List Name) (c : Command) → let line = command_line ns c in
@@ -373,9 +364,8 @@ module _ (constants : Bool) (ns : List Name) (inputs : ℕ) (before : Lines) (do
       rw (
         role_at before (codes "out") list,
         names_here is_output before (codes "out") list,
-        names_here is_defining before (codes "out") list,
+        names_stay is_defining before (codes "out") list refl,
         h.after.none,
-        append-nil (names_at is_defining before []),
         h.after.defined,
         all,
         each,
@@ -391,9 +381,8 @@ module _ (constants : Bool) (ns : List Name) (inputs : ℕ) (before : Lines) (do
         rw (
           role_at before (codes "out") list,
           names_here is_output before (codes "out") list,
-          names_here is_defining before (codes "out") list,
+          names_stay is_defining before (codes "out") list refl,
           h.after.none,
-          append-nil (names_at is_defining before []),
           known_clean ns inputs before done q h there,
           measured_held ns inputs before done q h there,
           once.0,
@@ -441,6 +430,7 @@ module _ (half : ℕ) (p : Pattern) (h : IsPattern half p) where
       let within : p.inputs + prepared (done ++ c ∷ []) ≤ length p.names =
       omega (arith, whole, qubits) in
       let named = command_named p.names p.inputs before done there c fits within in
+      let spelled = command_back half p.names h.valid.names h.permitted c named typed.0 in
       let few : length p.commands ≤ 262144 = h.few in
       let long = ap length e ∙ length-append done (c ∷ cs) in
       let room : length done < 262144 = omega (arith, few, long) in
@@ -459,8 +449,7 @@ module _ (half : ℕ) (p : Pattern) (h : IsPattern half p) where
         written =
             rw (command_written half p.names h.valid.names h.permitted c named typed.0, rest.written)
             refl;
-        back = command_more (command_by half p.names) (spelled_command line) c cs lines line refl
-            (command_back half p.names h.valid.names h.permitted c named typed.0) rest.back;
+        back = rw (spelled.1, spelled.2, rest.back) refl;
       }
 
   all_are : AreLines ((codes "in" ∷ take p.inputs p.names) ∷ []) p.commands

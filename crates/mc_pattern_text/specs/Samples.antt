@@ -1,16 +1,12 @@
 -- The definitions, computed on small texts: each fault that a pattern can meet, with its place.
-use Rattle.std.specs.Prelude.{◌≡◌, ℕ, List, [], ◌∷◌, codes, replicate, Bool, true}
-use Rattle.std.specs.Prelude.{false, Option, None, Some, refl, map}
+use Rattle.std.specs.Prelude.{◌≡◌, ℕ, List, [], ◌∷◌, ◌++◌, codes, replicate, Bool}
+use Rattle.std.specs.Prelude.{true, false, Option, None, Some, refl, map}
 use Rattle.mc_lex.specs.Lines.{lines_of, end_of}
 use Rattle.mc_model.specs.Signals.{Signal, no_signal, one_signal}
 use Rattle.mc_model.specs.Pattern.{Pattern, Prep, Ent, Meas, FixX, FixZ}
 use Rattle.mc_text.specs.declared.head.Head.TheVariants as head
 use Rattle.mc_text.specs.declared.fault.Fault.{Fault}
-use Rattle.mc_text.specs.declared.fault.Fault.TheVariants.{StrayByte, NotFixed, LineEnds, Surplus}
-use Rattle.mc_text.specs.declared.fault.Fault.TheVariants.{NotName, NotAngle, DefinedTwice}
-use Rattle.mc_text.specs.declared.fault.Fault.TheVariants.{NotDefined, Measured, SameOperand}
-use Rattle.mc_text.specs.declared.fault.Fault.TheVariants.{NotMeasured, ListedTwice, OutputsLack}
-use Rattle.mc_text.specs.declared.fault.Fault.TheVariants.{TextEnds}
+use Rattle.mc_text.specs.declared.fault.Fault.TheVariants as broken
 use Rattle.mc_text.specs.Judged.{Judgement, fault, limit, Place, first_in_section, section_lines}
 use Rattle.mc_pattern_text.specs.Value.{pattern_of}
 use Rattle.mc_pattern_text.specs.Judge.{pattern_rules, next_record}
@@ -28,7 +24,8 @@ signal_of qs constant = record { members = qs; constant = constant }
 -- each command, with constants behind the members, before them and between them, and without
 abbrev pub each_command : List ℕ
 each_command =
-    codes "in a b\nn q\ne a q # c\nm b -1 t: !\n\nm\ta 09 s: ! b t: b\nx q b ! a\nz q a !\nx q\nout q\nend\n"
+    codes "in a b\nn q\ne a q # c\nm b -1 t: !\n\nm\ta 09 s: ! b t: b\nx q b ! a\nz q a !\n"
+    ++ codes "x q\nout q\nend\n"
 
 pub spells : Spells each_command (record {
   names = codes "a" ∷ codes "b" ∷ codes "q" ∷ [];
@@ -46,7 +43,7 @@ pub spells : Spells each_command (record {
 })
 spells = refl
 
-pub no_constants_in_version_1 : first 1 each_command ≡ Some (fault NotName, (4, 11))
+pub no_constants_in_version_1 : first 1 each_command ≡ Some (fault broken.NotName, (4, 11))
 no_constants_in_version_1 = refl
 
 -- texts without a fault, and their versions
@@ -66,52 +63,52 @@ each_is_clean = refl
 abbrev pub broken_texts : List (List ℕ × Fault × Place)
 broken_texts =
     -- stray bytes, record words that may not stand there, and words that begin no signal
-    (codes "in a\nm a 0 s: \u{7f}\nout\nend\n", StrayByte, (2, 10))
-    ∷ (codes "n a\nout a\nend\n", NotFixed, (1, 1))
-    ∷ (codes "in a\nn b\nin c\nout a b c\nend\n", NotFixed, (3, 1))
-    ∷ (codes "in a\nout a\nx a\nend\n", NotFixed, (3, 1))
-    ∷ (codes "in a\nend\n", NotFixed, (2, 1))
-    ∷ (codes "in a\nj a 0\nout a\nend\n", NotFixed, (2, 1))
-    ∷ (codes "in a b\nm a 0\nm b 0 a\nout\nend\n", NotFixed, (3, 7))
-    ∷ (codes "in a\nm a 0 :\nout\nend\n", NotFixed, (2, 7))
-    ∷ (codes "in a\nm a 0 !\nout\nend\n", NotFixed, (2, 7))
+    (codes "in a\nm a 0 s: \u{7f}\nout\nend\n", broken.StrayByte, (2, 10))
+    ∷ (codes "n a\nout a\nend\n", broken.NotFixed, (1, 1))
+    ∷ (codes "in a\nn b\nin c\nout a b c\nend\n", broken.NotFixed, (3, 1))
+    ∷ (codes "in a\nout a\nx a\nend\n", broken.NotFixed, (3, 1))
+    ∷ (codes "in a\nend\n", broken.NotFixed, (2, 1))
+    ∷ (codes "in a\nj a 0\nout a\nend\n", broken.NotFixed, (2, 1))
+    ∷ (codes "in a b\nm a 0\nm b 0 a\nout\nend\n", broken.NotFixed, (3, 7))
+    ∷ (codes "in a\nm a 0 :\nout\nend\n", broken.NotFixed, (2, 7))
+    ∷ (codes "in a\nm a 0 !\nout\nend\n", broken.NotFixed, (2, 7))
     -- lines that lack a name, a second operand, an angle, a corrected qubit; words too many; a text cut
-    ∷ (codes "in a\nn\nout a\nend\n", LineEnds, (2, 2))
-    ∷ (codes "in a b\ne a\nout a b\nend\n", LineEnds, (2, 4))
-    ∷ (codes "in a\nm a # 1\nout\nend\n", LineEnds, (2, 4))
-    ∷ (codes "in a\n z \nout a\nend\n", LineEnds, (2, 3))
-    ∷ (codes "in\nn a b\nout a b\nend\n", Surplus, (2, 5))
-    ∷ (codes "in a b c\ne a b c\nout a b c\nend\n", Surplus, (2, 7))
-    ∷ (codes "in\nout\nend in\n", Surplus, (3, 5))
-    ∷ (codes "in a\nout a\n", TextEnds, (3, 1))
+    ∷ (codes "in a\nn\nout a\nend\n", broken.LineEnds, (2, 2))
+    ∷ (codes "in a b\ne a\nout a b\nend\n", broken.LineEnds, (2, 4))
+    ∷ (codes "in a\nm a # 1\nout\nend\n", broken.LineEnds, (2, 4))
+    ∷ (codes "in a\n z \nout a\nend\n", broken.LineEnds, (2, 3))
+    ∷ (codes "in\nn a b\nout a b\nend\n", broken.Surplus, (2, 5))
+    ∷ (codes "in a b c\ne a b c\nout a b c\nend\n", broken.Surplus, (2, 7))
+    ∷ (codes "in\nout\nend in\n", broken.Surplus, (3, 5))
+    ∷ (codes "in a\nout a\n", broken.TextEnds, (3, 1))
     -- no names, among them marks and constants where none may stand, and no angle
-    ∷ (codes "in a-b\nout\nend\n", NotName, (1, 4))
-    ∷ (codes "in a b\nm a 0\nm b 0 s: s: a\nout\nend\n", NotName, (3, 10))
-    ∷ (codes "in a b\nm a 0\nm b 0 t: a s: a\nout\nend\n", NotName, (3, 12))
-    ∷ (codes "in a b\nm a 0\nx b s: a\nout b\nend\n", NotName, (3, 5))
-    ∷ (codes "in a\nx ! a\nout a\nend\n", NotName, (2, 3))
-    ∷ (codes "in a\nout a !\nend\n", NotName, (2, 7))
-    ∷ (codes "in a\nm a s: a\nout\nend\n", NotAngle, (2, 5))
+    ∷ (codes "in a-b\nout\nend\n", broken.NotName, (1, 4))
+    ∷ (codes "in a b\nm a 0\nm b 0 s: s: a\nout\nend\n", broken.NotName, (3, 10))
+    ∷ (codes "in a b\nm a 0\nm b 0 t: a s: a\nout\nend\n", broken.NotName, (3, 12))
+    ∷ (codes "in a b\nm a 0\nx b s: a\nout b\nend\n", broken.NotName, (3, 5))
+    ∷ (codes "in a\nx ! a\nout a\nend\n", broken.NotName, (2, 3))
+    ∷ (codes "in a\nout a !\nend\n", broken.NotName, (2, 7))
+    ∷ (codes "in a\nm a s: a\nout\nend\n", broken.NotAngle, (2, 5))
     -- names that are defined twice, not at all, measured before, or the first operand again
-    ∷ (codes "in a\nn a\nout a\nend\n", DefinedTwice, (2, 3))
-    ∷ (codes "in a\nm a 0\nn a\nout a\nend\n", DefinedTwice, (3, 3))
-    ∷ (codes "in a\nx b\nout a\nend\n", NotDefined, (2, 3))
-    ∷ (codes "in a\nx a b\nout a\nend\n", NotDefined, (2, 5))
-    ∷ (codes "in a\nout b\nend\n", NotDefined, (2, 5))
-    ∷ (codes "in a\nm a 0\nm a 0\nout\nend\n", Measured, (3, 3))
-    ∷ (codes "in a b\nm a 0\ne b a\nout b\nend\n", Measured, (3, 5))
-    ∷ (codes "in a b\nm a 0\nout b a\nend\n", Measured, (3, 7))
-    ∷ (codes "in a\ne a a\nout a\nend\n", SameOperand, (2, 5))
+    ∷ (codes "in a\nn a\nout a\nend\n", broken.DefinedTwice, (2, 3))
+    ∷ (codes "in a\nm a 0\nn a\nout a\nend\n", broken.DefinedTwice, (3, 3))
+    ∷ (codes "in a\nx b\nout a\nend\n", broken.NotDefined, (2, 3))
+    ∷ (codes "in a\nx a b\nout a\nend\n", broken.NotDefined, (2, 5))
+    ∷ (codes "in a\nout b\nend\n", broken.NotDefined, (2, 5))
+    ∷ (codes "in a\nm a 0\nm a 0\nout\nend\n", broken.Measured, (3, 3))
+    ∷ (codes "in a b\nm a 0\ne b a\nout b\nend\n", broken.Measured, (3, 5))
+    ∷ (codes "in a b\nm a 0\nout b a\nend\n", broken.Measured, (3, 7))
+    ∷ (codes "in a\ne a a\nout a\nend\n", broken.SameOperand, (2, 5))
     -- members that no earlier line measures, and what is listed twice
-    ∷ (codes "in a b\nm a 0 s: b\nm b 0\nout\nend\n", NotMeasured, (2, 10))
-    ∷ (codes "in a\nm a 0 s: a\nout\nend\n", NotMeasured, (2, 10))
-    ∷ (codes "in a\nx a a\nout a\nend\n", NotMeasured, (2, 5))
-    ∷ (codes "in a b\nm a 0\nm b 0 s: a a\nout\nend\n", ListedTwice, (3, 12))
-    ∷ (codes "in a b\nm a 0\nm b 0 s: a t: a a\nout\nend\n", ListedTwice, (3, 17))
-    ∷ (codes "in a b\nm a 0\nx b ! a !\nout b\nend\n", ListedTwice, (3, 9))
-    ∷ (codes "in a b\nout a b a\nend\n", ListedTwice, (2, 9))
+    ∷ (codes "in a b\nm a 0 s: b\nm b 0\nout\nend\n", broken.NotMeasured, (2, 10))
+    ∷ (codes "in a\nm a 0 s: a\nout\nend\n", broken.NotMeasured, (2, 10))
+    ∷ (codes "in a\nx a a\nout a\nend\n", broken.NotMeasured, (2, 5))
+    ∷ (codes "in a b\nm a 0\nm b 0 s: a a\nout\nend\n", broken.ListedTwice, (3, 12))
+    ∷ (codes "in a b\nm a 0\nm b 0 s: a t: a a\nout\nend\n", broken.ListedTwice, (3, 17))
+    ∷ (codes "in a b\nm a 0\nx b ! a !\nout b\nend\n", broken.ListedTwice, (3, 9))
+    ∷ (codes "in a b\nout a b a\nend\n", broken.ListedTwice, (2, 9))
     -- a qubit that is neither measured nor an output
-    ∷ (codes "in a b c\nm a 0\nout b \nend", OutputsLack, (3, 6))
+    ∷ (codes "in a b c\nm a 0\nout b \nend", broken.OutputsLack, (3, 6))
     ∷ []
 
 pub each_breaks :
@@ -126,7 +123,7 @@ pub names_pass : (pattern_rules 2).judge many (codes "n" ∷ []) (codes "c") ≡
 names_pass = refl
 
 pub rules_before_the_limit :
-    (pattern_rules 2).judge many (codes "n" ∷ []) (codes "b") ≡ Some (fault DefinedTwice)
+    (pattern_rules 2).judge many (codes "n" ∷ []) (codes "b") ≡ Some (fault broken.DefinedTwice)
 rules_before_the_limit = refl
 
 pub commands_pass : next_record (Some head.M) 262144 (codes "x") ≡ Some (limit 3 262145)
@@ -138,5 +135,5 @@ last_command = refl
 pub outputs_behind_the_last : next_record (Some head.M) 262144 (codes "out") ≡ None
 outputs_behind_the_last = refl
 
-pub order_before_the_limit : next_record (Some head.Out) 262144 (codes "x") ≡ Some (fault NotFixed)
+pub order_before_the_limit : next_record (Some head.Out) 262144 (codes "x") ≡ Some (fault broken.NotFixed)
 order_before_the_limit = refl
