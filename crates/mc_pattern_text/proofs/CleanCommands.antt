@@ -127,7 +127,8 @@ module _ (ns : List Name) (inputs : ℕ) (before : Lines) (done : List Command) 
       ∙ sym (measured_listed done q))
 
   pub still_clean : (q : ℕ) → AreThere ns inputs before done → IsLive inputs done q
-      → still_name (names_at is_defining before []) (measured_in before) (name_at ns q) ≡ None
+      → still_name (names_at is_defining before []) (is_held (measured_in before)) (name_at ns q)
+      ≡ None
   still_clean q h live =
       let known = known_clean q h live.is_there in
       let held = measured_held q h live.is_there ∙ live.is_not_measured in

@@ -10,7 +10,7 @@ use Rattle.mc_angle.specs.Number.{is_number, is_digit}
 use Rattle.std.proofs.lemmas.Bool.{and_parts, or_left, or_right}
 use Rattle.std.proofs.lemmas.Bool.Decides.{nat_tests}
 use Rattle.std.proofs.lemmas.List.{append-nil, map-append}
-use Rattle.mc_model.specs.Names.{Name, AreNames, is_name, is_name_byte}
+use Rattle.mc_model.specs.Names.{Name, AreNames, is_held, is_name, is_name_byte}
 use Rattle.mc_model.specs.Signals.{Signal}
 use Rattle.mc_model.specs.Pattern.{Command, Prep, Ent, Meas, FixX, FixZ, has_constant}
 use Rattle.mc_model.specs.Steps.{is_permitted}
@@ -36,7 +36,7 @@ use Rattle.mc_rows.specs.Written.{set_words}
 use Rattle.mc_rows.proofs.Lines.{all_front, among, free, named_all}
 use Rattle.mc_rows.proofs.Sets.{name_no_one}
 use Rattle.mc_pattern_text.specs.Roles.{term, role_behind, is_defining, is_correcting}
-use Rattle.mc_pattern_text.specs.Judge.{known_at, measured_in, member_name, term_word, rules_with}
+use Rattle.mc_pattern_text.specs.Judge.{Test, Terms, terms_in, known_at, measured_in, member_name, term_word, rules_with}
 use Rattle.mc_pattern_text.specs.Canonical.{signal_words, marked, command_line}
 use Rattle.mc_text.proofs.NamesHere.{names_stay}
 use Rattle.mc_pattern_text.proofs.Under.{AreUnmarked, IsAt, Opens, correction_at, first_at}
@@ -62,17 +62,17 @@ names_unmarked ns qs valid below =
     rw (append-nil (map (name_at ns) qs)) at all
 
 -- a name is judged as a member, and the constant stands behind names alone
-name_term : (constants : Bool) (names measured : List Name) (words : Words) (word : List ℕ)
+name_term : (constants : Bool) (names : List Name) (measured : Test) (terms : Terms) (word : List ℕ)
     → is_name word ≡ true
-    → term_word constants names measured words word ≡ member_name names measured words word
-name_term true names measured words word named = rw (name_no_one word named) refl
-name_term false names measured words word named = refl
+    → term_word constants names measured terms word ≡ member_name names measured terms word
+name_term true names measured terms word named = rw (name_no_one word named) refl
+name_term false names measured terms word named = refl
 
 -- where each word is judged as a term, nothing is against a signal, behind the members before
 module _ (constants : Bool) (ns names measured : List Name) (valid : AreNames ns) (before : Lines)
     (here : Words) (judged : (list : Words) (word : List ℕ) → AreUnmarked list → mark_of word ≡ None
     → (rules_with constants).judge before (here ++ list) word
-    ≡ term_word constants names measured list word) where
+    ≡ term_word constants names (is_held measured) (terms_in list) word) where
   terms_clean : (done qs : List ℕ) (b : Bool) (tail : Words)
       → AreMembers ns names measured (done ++ qs) → (b ≡ true → constants ≡ true)
       → CleanWords (rules_with constants) before (here ++ set_words ns (done ++ qs) b) tail
@@ -85,7 +85,7 @@ module _ (constants : Bool) (ns names measured : List Name) (valid : AreNames ns
       let all = are.below in
       let below : All (λ q. q < length ns) done = rw (append-nil done) at all in
       let free = (named_all ns done valid below).1 in
-      let clean : term_word constants names measured list (codes "!") ≡ None =
+      let clean : term_word constants names (is_held measured) (terms_in list) (codes "!") ≡ None =
       rw (permits refl, free) refl in (
         judged list (codes "!") (names_unmarked ns done valid below) refl ∙ clean,
         rw (append-nil done, ← append_assoc here list (codes "!" ∷ [])) at rest,
@@ -100,7 +100,7 @@ module _ (constants : Bool) (ns names measured : List Name) (valid : AreNames ns
       let same = (named_all ns done valid front).0 in
       let apart = free ns done q qs valid.distinct are.below are.rising in
       let early = are.early q is in
-      let clean : member_name names measured list (name_at ns q) ≡ None =
+      let clean : member_name names (is_held measured) (terms_in list) (name_at ns q) ≡ None =
       rw (known, same, apart, early) refl in
       let next : (done ++ q ∷ []) ++ qs ≡ done ++ (q ∷ qs) = append_assoc done (q ∷ []) qs in
       let later = terms_clean (done ++ q ∷ []) qs b tail (rw next are) permits (rw next rest) in
@@ -109,7 +109,7 @@ module _ (constants : Bool) (ns names measured : List Name) (valid : AreNames ns
       ∙ sym (append_assoc here list (name_at ns q ∷ [])) in (
         judged list (name_at ns q) (names_unmarked ns done valid front)
             (name_no_mark (name_at ns q) name)
-            ∙ name_term constants names measured list (name_at ns q) name ∙ clean,
+            ∙ name_term constants names (is_held measured) (terms_in list) (name_at ns q) name ∙ clean,
         rw line at later,
       )
 
@@ -268,7 +268,7 @@ command_clean constants half ns inputs before done (Ent q r) h permitted within 
     let lq = fits.0.is_there in
     let lr = fits.1.is_there in
     let second = still_clean ns inputs before done r h fits.1 in
-    let apart = names_apart ns q r h.names.distinct (omega arith) (omega arith) fits.2 in (
+    let apart = names_apart ns r q h.names.distinct (omega arith) (omega arith) (λ e. fits.2 (sym e)) in (
       record_clean ns inputs before done (codes "e") h room refl,
       (still_clean ns inputs before done q h fits.0, (rw (second, apart) refl, refl)),
     )

@@ -3,7 +3,7 @@ use Rattle.std.proofs.Common.{◌≡◌, ℕ, Bool, true, false, not, ◌&&◌, 
 use Rattle.std.proofs.Common.{Option, None, length, map, refl, sym, ap, ◌∙◌, nat_eq, nat_lt}
 use Rattle.std.proofs.Common.{inl, inr, subst}
 use Rattle.std.specs.List.{list_all, list_any}
-use Rattle.std.proofs.lemmas.Bool.{and_parts, eqb-true, or_cases}
+use Rattle.std.proofs.lemmas.Bool.{and_parts, cases_Bool, eqb-true, or_cases}
 use Rattle.std.proofs.lemmas.List.Elements.{filter-append}
 use Rattle.std.proofs.lemmas.List.Folds.{list_all-append, list_any-append}
 use Rattle.mc_model.specs.Bits.{Bits}
@@ -22,7 +22,7 @@ use Rattle.mc_text.specs.Places.{words_by}
 use Rattle.mc_text.proofs.Clean.{CleanWords}
 use Rattle.mc_text.proofs.Going.{point_of-more}
 use Rattle.mc_text.proofs.Places.{words_by-last}
-use Rattle.mc_text.specs.declared.fault.Fault.TheVariants.{NotMeasured}
+use Rattle.mc_text.specs.declared.fault.Fault.TheVariants.{ListedTwice, NotMeasured}
 use Rattle.mc_text.specs.Rules.{number_in, broken, listed_name}
 use Rattle.mc_text.specs.Rules.{known_name}
 use Rattle.mc_text.proofs.Unbroken.{known_is, next_none, not_false, unbroken}
@@ -33,7 +33,7 @@ use Rattle.mc_rows.proofs.Sets.{name_no_one}
 use Rattle.mc_pattern_text.specs.Roles.{Role, first_term, second_term, term, role_of, is_defining}
 use Rattle.mc_pattern_text.specs.Value.{is_second, signal_in, first_of, second_of, added_by}
 use Rattle.mc_pattern_text.specs.Value.{first_signal, second_signal}
-use Rattle.mc_pattern_text.specs.Judge.{Known, known_at, measured_in, member_name, term_word}
+use Rattle.mc_pattern_text.specs.Judge.{Terms, terms_in, known_at, measured_in, member_name, term_word}
 use Rattle.mc_pattern_text.specs.Judge.{judge_by, rules_with}
 use Rattle.mc_pattern_text.specs.Kept.{AreMarked}
 use Rattle.mc_pattern_text.proofs.Marked.{marked-name}
@@ -62,15 +62,15 @@ both_good constants names measured xs ys one more =
       plain = λ none. list_any-append is_one xs ys ∙ rw (one.plain none, more.plain none) refl;
     }
 
-member_good : (constants : Bool) (names measured : List (List ℕ)) (signal : Words) (word : List ℕ)
-    → member_name names measured signal word ≡ None
+member_good : (constants : Bool) (names measured : List (List ℕ)) (terms : Terms) (word : List ℕ)
+    → member_name names (is_held measured) terms word ≡ None
     → AreGood constants names measured (word ∷ [])
-member_good constants names measured signal word clean =
-    let late = (not (is_held measured word), NotMeasured) ∷ [] in
-    let both = next_none (listed_name names (named signal) word) (broken late) clean in
-    let known = known_is names word (next_none (known_name names word) _ both.0).0 in
-    let early = not_false (is_held measured word)
-    (unbroken (not (is_held measured word)) NotMeasured [] both.1).0 in
+member_good constants names measured terms word clean =
+    let both = next_none (known_name names word) _ clean in
+    let known = known_is names word both.0 in
+    let late = not (is_held measured word) in
+    let apart = unbroken (terms.has word) ListedTwice ((late, NotMeasured) ∷ []) both.1 in
+    let early = not_false (is_held measured word) (unbroken late NotMeasured [] apart.1).0 in
     let no_one = name_no_one word known.0 in
     record {
       known = rw (no_one, known.1) refl;
@@ -78,15 +78,14 @@ member_good constants names measured signal word clean =
       plain = λ none. rw no_one refl;
     }
 
-term_good : (constants : Bool) (names measured : List (List ℕ)) (signal : Words)
-    (word : List ℕ) → term_word constants names measured signal word ≡ None
+term_good : (constants : Bool) (names measured : List (List ℕ)) (terms : Terms) (word : List ℕ)
+    → term_word constants names (is_held measured) terms word ≡ None
     → AreGood constants names measured (word ∷ [])
-term_good constants names measured signal word clean =
-    by_tests constants (is_one word) refl refl
+term_good constants names measured terms word clean = by_tests constants (is_one word) refl refl
   where
     by_member : (constants && is_one word) ≡ false
         → AreGood constants names measured (word ∷ [])
-    by_member e = member_good constants names measured signal word (rw e at clean)
+    by_member e = member_good constants names measured terms word (rw e at clean)
 
     by_tests : (c t : Bool) → constants ≡ c → is_one word ≡ t
         → AreGood constants names measured (word ∷ [])
@@ -99,50 +98,52 @@ term_good constants names measured signal word clean =
     by_tests false t e f = by_member (rw e refl)
 
 -- what a word adds to the signals of its line
-first_good : (constants : Bool) (k : Known) (last : Option Head) (r : Role) (w : List ℕ)
-    → judge_by constants k last r w ≡ None
-    → AreGood constants k.names k.measured (first_of r w)
-first_good constants k last first_term w clean = by_test (is_second (mark_of w)) refl
-  where
-    by_test : (t : Bool) → is_second (mark_of w) ≡ t
-        → AreGood constants k.names k.measured (first_of first_term w)
-    by_test true e = rw e (no_terms constants k.names k.measured)
-    by_test false e =
-        let clean' : term_word constants k.names k.measured k.s w ≡ None = rw e at clean in
-        rw e (term_good constants k.names k.measured k.s w clean')
-first_good constants k last term w clean = term_good constants k.names k.measured k.s w clean
-first_good constants k last _ w clean = no_terms constants k.names k.measured
+module _ (constants : Bool) (before : Lines) where
+  abbrev Good : Words → Type 0
+  Good words = AreGood constants (names_at is_defining before []) (measured_in before) words
 
-second_good : (constants : Bool) (k : Known) (last : Option Head) (r : Role) (w : List ℕ)
-    → judge_by constants k last r w ≡ None
-    → AreGood constants k.names k.measured (second_of r w)
-second_good constants k last second_term w clean = term_good constants k.names k.measured k.t w clean
-second_good constants k last _ w clean = no_terms constants k.names k.measured
+  none_good : Good []
+  none_good = no_terms constants (names_at is_defining before []) (measured_in before)
 
--- and those of a line
-module _ (constants : Bool) (adds : Role → List ℕ → Words)
-    (good : (k : Known) (last : Option Head) (r : Role) (w : List ℕ)
-    → judge_by constants k last r w ≡ None
-    → AreGood constants k.names k.measured (adds r w)) where
-  words_good : (before : Lines) (h : List ℕ) (xs ws : Words) → is_defining (head_of h) ≡ false
-      → CleanWords (rules_with constants) before (h ∷ xs) ws
-      → AreGood constants (names_at is_defining before []) (measured_in before)
-      (words_by (added_by adds) (point_of before (h ∷ xs)) ws)
-  words_good before h xs [] gate clean =
-      no_terms constants (names_at is_defining before []) (measured_in before)
-  words_good before h xs (w ∷ ws) gate clean =
-      let names = names_at is_defining before [] in
-      let measured = measured_in before in
+  abbrev Judged : Words → Option Head → Role → List ℕ → Type 0
+  Judged here last r w =
+      judge_by constants (record (known_at before here) { names = names_at is_defining before [] }) last
+      r w ≡ None
+
+  one_good : (terms : Terms) (w : List ℕ)
+      → term_word constants (names_at is_defining before []) (is_held (measured_in before)) terms w
+      ≡ None → Good (w ∷ [])
+  one_good terms w clean =
+      term_good constants (names_at is_defining before []) (measured_in before) terms w clean
+
+  first_good : (here : Words) (last : Option Head) (r : Role) (w : List ℕ) → Judged here last r w
+      → Good (first_of r w)
+  first_good here last first_term w clean = elim (cases_Bool (is_second (mark_of w))) [
+    | inl e ↦ rw e none_good
+    | inr e ↦ rw e (one_good (terms_in (first_signal here)) w (rw e at clean))
+  ]
+  first_good here last term w clean = one_good (terms_in (first_signal here)) w clean
+  first_good here last _ w clean = none_good
+
+  second_good : (here : Words) (last : Option Head) (r : Role) (w : List ℕ) → Judged here last r w
+      → Good (second_of r w)
+  second_good here last second_term w clean = one_good (terms_in (second_signal here)) w clean
+  second_good here last _ w clean = none_good
+
+  -- and those of a line
+  words_good : (adds : Role → List ℕ → Words) (h : List ℕ) (xs ws : Words)
+      → ((here : Words) (last : Option Head) (r : Role) (w : List ℕ) → Judged here last r w
+      → Good (adds r w))
+      → is_defining (head_of h) ≡ false → CleanWords (rules_with constants) before (h ∷ xs) ws
+      → Good (words_by (added_by adds) (point_of before (h ∷ xs)) ws)
+  words_good adds h xs [] good gate clean = none_good
+  words_good adds h xs (w ∷ ws) good gate clean =
       let p = point_of before (h ∷ xs) in
-      let one = good (known_at before (h ∷ xs)) p.last (role_of p) w clean.0 in
-      let one' : AreGood constants names measured (adds (role_of p) w) =
-      rw (names_stay is_defining before h xs gate) at one in
-      let rest = subst
-      (λ (q : Point). AreGood constants names measured (words_by (added_by adds) q ws))
-      (point_of-more before (h ∷ xs) w)
-      (words_good before h (xs ++ w ∷ []) ws gate clean.1) in
-      both_good constants names measured (adds (role_of p) w)
-      (words_by (added_by adds) (next_point p w) ws) one' rest
+      let one = good (h ∷ xs) p.last (role_of p) w (rw (names_stay is_defining before h xs gate) at clean.0) in
+      let rest = subst (λ (q : Point). Good (words_by (added_by adds) q ws))
+      (point_of-more before (h ∷ xs) w) (words_good adds h (xs ++ w ∷ []) ws good gate clean.1) in
+      both_good constants (names_at is_defining before []) (measured_in before) (adds (role_of p) w)
+      (words_by (added_by adds) (next_point p w) ws) one rest
 
 -- the members of a signal of such terms are measured
 members_done : (names measured : List (List ℕ)) (marks : Bits) (list : List (List ℕ)) (q : ℕ)
@@ -191,21 +192,21 @@ module _ (constants : Bool) (before : Lines) (h : List ℕ) (ws : Words) (marks 
     (are : AreMarked (names_at is_defining before []) (measured_in before) marks)
     (gate : is_defining (head_of h) ≡ false)
     (clean : CleanWords (rules_with constants) before (h ∷ []) ws) where
-  pub first_terms : AreTerms constants (names_at is_defining before []) marks (first_signal (h ∷ ws))
-  first_terms =
-      terms_are constants (names_at is_defining before []) (measured_in before) marks
-      (first_signal (h ∷ ws)) are
-      (subst (AreGood constants (names_at is_defining before []) (measured_in before))
-      (words_by-last (added_by first_of) (λ p last w. refl) (last_head before)
+  signal_terms : (adds : Role → List ℕ → Words)
+      → ((here : Words) (last : Option Head) (r : Role) (w : List ℕ)
+      → Judged constants before here last r w → Good constants before (adds r w))
+      → AreTerms constants (names_at is_defining before []) marks
+      (words_by (added_by adds) (next_point (first_point None) h) ws)
+  signal_terms adds good =
+      terms_are constants (names_at is_defining before []) (measured_in before) marks _ are
+      (subst (Good constants before)
+      (words_by-last (added_by adds) (λ p last w. refl) (last_head before)
       (next_point (first_point None) h) ws)
-      (words_good constants first_of (first_good constants) before h [] ws gate clean))
+      (words_good constants before adds h [] ws good gate clean))
+
+  pub first_terms : AreTerms constants (names_at is_defining before []) marks (first_signal (h ∷ ws))
+  first_terms = signal_terms first_of (first_good constants before)
 
   pub second_terms : AreTerms constants (names_at is_defining before []) marks
       (second_signal (h ∷ ws))
-  second_terms =
-      terms_are constants (names_at is_defining before []) (measured_in before) marks
-      (second_signal (h ∷ ws)) are
-      (subst (AreGood constants (names_at is_defining before []) (measured_in before))
-      (words_by-last (added_by second_of) (λ p last w. refl) (last_head before)
-      (next_point (first_point None) h) ws)
-      (words_good constants second_of (second_good constants) before h [] ws gate clean))
+  second_terms = signal_terms second_of (second_good constants before)

@@ -24,11 +24,10 @@ use Rattle.mc_pattern_text.specs.Roles.{is_measuring, is_output}
 use Rattle.mc_pattern_text.specs.Value.{Spelled, spelled_command, spelled_commands, command_by}
 use Rattle.mc_pattern_text.specs.Judge.{measured_in, lacks_by, rules_with}
 use Rattle.mc_pattern_text.specs.Kept.{IsKept, AreMarked, IsSpelled, AreOperands, Ends}
-use Rattle.mc_pattern_text.specs.Kept.{command_with}
+use Rattle.mc_pattern_text.specs.Kept.{command_with, known_of}
 use Rattle.mc_text.proofs.Members.{place-below}
 use Rattle.mc_rows.proofs.Sets.{no_members}
 use Rattle.mc_pattern_text.proofs.Keeping.{marked-word}
-use Rattle.mc_pattern_text.proofs.KeepingWord.{known_of, count_kept}
 use Rattle.mc_pattern_text.proofs.Under.{measuring_head}
 use Rattle.mc_pattern_text.proofs.Made.{command_same}
 
@@ -52,12 +51,11 @@ measured_other before h words e =
 measured_line : {half : ℕ} (k k' : Reader half) (before : Lines) (h : List ℕ) (words : Words)
     (p : Point) (t : Bool) → is_measuring (head_of h) ≡ t → p ≡ point_of before (h ∷ words)
     → IsKept k before (h ∷ words) → Ends k k' p
-    → lacks_by (known_of k before (h ∷ words)) (role_of p) ≡ None
     → AreMarked k.names (measured_in (before ++ (h ∷ words) ∷ [])) (bits_of k'.marks)
-measured_line k k' before h [] p true m e kept ends clean =
-    let clean' = rw (e, measuring_head (head_of h) m) at clean in
+measured_line k k' before h [] p true m e kept ends =
+    let clean' = rw (e, measuring_head (head_of h) m) at ends.clean in
     absurd (cc clean')
-measured_line k k' before h (a ∷ words) p true m e kept ends clean =
+measured_line k k' before h (a ∷ words) p true m e kept ends =
     let g = measuring_head (head_of h) m in
     let head : p.head ≡ Some M = rw (e, head_at before (h ∷ a ∷ words), g) refl in
     let place = kept.operands.place a (rw g refl) in
@@ -70,7 +68,7 @@ measured_line k k' before h (a ∷ words) p true m e kept ends clean =
     k.operands.first kept.measured place
     (λ r. ap (λ (f : Bits). f r) marks
     ∙ replaced_or (bits_of k.marks) k.operands.first r (nat_eq r k.operands.first) refl))
-measured_line k k' before h words p false m e kept ends clean =
+measured_line k k' before h words p false m e kept ends =
     let head : is_measuring p.head ≡ false = rw (e, head_at before (h ∷ words)) m in
     rw (measured_other before h words m, ends.same_marks head) kept.measured
 
@@ -109,41 +107,29 @@ no_operands names o s t = record {
   t = rw t (nothing_spelled names);
 }
 
-pub same_lacks : {half : ℕ} (k : Reader half) (before : Lines) (here : Words) (p : Point)
-    → IsKept k before here → p ≡ point_of before here
-    → lacks_by (known_of k before here) (role_of p) ≡ (rules_with k.constants).lacks before here
-same_lacks k before here p h e = rw (e, h.names, count_kept k before here h) refl
-
 pub line_kept : {half : ℕ} (k k' : Reader half) (before : Lines) (here : Words) (p : Point)
     → IsKept k before here → p ≡ point_of before here → Ends k k' p
-    → (lacks_by (known_of k before here) (role_of p) ≡ None) × IsKept k' (before ++ here ∷ []) []
+    → IsKept k' (before ++ here ∷ []) []
 line_kept k k' before [] p kept e ends =
-    let clean = ends.clean (measured_in before) (names_at is_output before []) [] [] None 0
-    kept.measured kept.outputs in
-    let clean' = rw e at clean in
-    absurd (cc clean')
+    let clean = rw e at ends.clean in
+    absurd (cc clean)
 line_kept {half} k k' before (h ∷ words) p kept e ends =
     let here = h ∷ words in
-    let known = known_of k before here in
-    let clean = ends.clean known.measured known.listed known.s known.t known.operand known.commands
-    kept.measured kept.outputs in
     let head : p.head ≡ head_of h = rw (e, head_at before here) refl in
     let listed = names_at-line is_output before here in
     let commands = map (plain_command {h = half}) k.commands.items in
-    let same = λ (more : List (List ℕ)). command_same k before h words p more e kept clean
-    (head_of h) refl in (
-      clean,
-      record {
-        names = ends.names ∙ kept.names ∙ sym (names_at-line is_defining before here);
-        inputs = ends.inputs ∙ kept.inputs ∙ ap length (sym (names_at-line is_input before here));
-        outputs = rw (ends.names, ends.outputs, listed) kept.outputs;
-        measured = rw ends.names
-            (measured_line k k' before h words p (is_measuring (head_of h)) refl e kept ends clean);
-        operands = no_operands k'.names k'.operands ends.s ends.t;
-        commands = λ more.
-            ends.commands
-            ∙ rw (head, ends.names)
-            (commands_line (command_by half (k.names ++ more)) commands
-            (command_with (head_of h) k.operands) before here (kept.commands more) (same more));
-      },
-    )
+    let same = λ (more : List (List ℕ)). command_same k before h words p more e kept ends.clean
+    (head_of h) refl in
+    record {
+      names = ends.names ∙ kept.names ∙ sym (names_at-line is_defining before here);
+      inputs = ends.inputs ∙ kept.inputs ∙ ap length (sym (names_at-line is_input before here));
+      outputs = rw (ends.names, ends.outputs, listed) kept.outputs;
+      measured = rw ends.names
+          (measured_line k k' before h words p (is_measuring (head_of h)) refl e kept ends);
+      operands = no_operands k'.names k'.operands ends.s ends.t;
+      commands = λ more.
+          ends.commands
+          ∙ rw (head, ends.names)
+          (commands_line (command_by half (k.names ++ more)) commands
+          (command_with (head_of h) k.operands) before here (kept.commands more) (same more));
+    }

@@ -19,9 +19,8 @@ use Rattle.mc_pattern_text.specs.Roles.{role_of, is_command}
 use Rattle.mc_pattern_text.specs.Value.{first_signal, second_signal, spelled_by, command_by}
 use Rattle.mc_pattern_text.specs.Value.{pattern_of}
 use Rattle.mc_pattern_text.specs.Judge.{lacks_by}
-use Rattle.mc_pattern_text.specs.Kept.{IsKept, command_with}
+use Rattle.mc_pattern_text.specs.Kept.{IsKept, command_with, known_of}
 use Rattle.mc_pattern_text.proofs.Sets.{signal_same}
-use Rattle.mc_pattern_text.proofs.KeepingWord.{known_of}
 
 module _ {half : ℕ} (k : Reader half) (before : Lines) (h : List ℕ) where
   first_same : (words : Words) (more : List (List ℕ)) (a : List ℕ) → IsKept k before (h ∷ words)
@@ -33,7 +32,7 @@ module _ {half : ℕ} (k : Reader half) (before : Lines) (h : List ℕ) where
   -- a whole line: the end of it has nothing against it
   pub command_same : (words : Words) (p : Point) (more : List (List ℕ))
       → p ≡ point_of before (h ∷ words) → IsKept k before (h ∷ words)
-      → lacks_by (known_of k before (h ∷ words)) (role_of p) ≡ None
+      → lacks_by (known_of k) (role_of p) ≡ None
       → (hd : Option Head) → head_of h ≡ hd
       → command_with hd k.operands
       ≡ option_map (command_by half (k.names ++ more))

@@ -17,7 +17,7 @@ use Rattle.mc_lex.specs.declared.kind.Kind.TheVariants as kind
 use Rattle.mc_lex.specs.Lines.{end_of}
 use Rattle.mc_write.specs.Named.{name_at}
 use Rattle.mc_angle.proofs.Numerals.{angle-decimal, number-decimal}
-use Rattle.mc_model.specs.Names.{Name, AreNames, is_name, name_eq}
+use Rattle.mc_model.specs.Names.{Name, AreNames, is_held, is_name, name_eq}
 use Rattle.mc_model.specs.Pattern.{Command, Prep, Ent, Meas, FixX, FixZ, Pattern, has_constant}
 use Rattle.mc_model.specs.Pattern.{measured_by, measured_order}
 use Rattle.mc_model.specs.Signals.{Signal}
@@ -351,8 +351,9 @@ module _ (constants : Bool) (ns : List Name) (inputs : ℕ) (before : Lines) (do
       let list = map (name_at ns) listed in
       let all : take (inputs + prepared done) ns ≡ ns = rw whole (take-length ns) in
       let due' = rw (append-nil listed) at due in
-      let each : list_all (is_settled (measured_in before) list) ns ≡ true =
-      list_all-from_AllPass (is_settled (measured_in before) list) ns (λ q d lt.
+      let settled = is_settled (is_held (measured_in before)) (is_held list) in
+      let each : list_all settled ns ≡ true =
+      list_all-from_AllPass settled ns (λ q d lt.
       let here : get_or ns q d ≡ name_at ns q =
       sym (ap (λ (name : Option Name). unwrap_or name []) (slice_get-get_or ns q d lt)) in
       let held = measured_held ns inputs before done q h (omega (arith, whole, lt)) in

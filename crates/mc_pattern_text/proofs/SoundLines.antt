@@ -77,7 +77,7 @@ pub record IsSound (half : ℕ) (constants : Bool) (before : Lines) : Type 0 whe
   pub start : last_head before ≡ None → before ≡ []
   pub unlisted : is_closed (last_head before) ≡ false → names_at is_output before [] ≡ []
   pub complete : is_closed (last_head before) ≡ true
-      → list_all (is_settled (measured_in before) (names_at is_output before []))
+      → list_all (is_settled (is_held (measured_in before)) (is_held (names_at is_output before [])))
       (names_at is_defining before []) ≡ true
 
 no_outputs : (names done : List Name) → AreOutputs names done []
@@ -109,7 +109,7 @@ record IsStillName (names done : List Name) (word : Name) : Type 0 where
   held : is_held names word ≡ true
   still : is_held done word ≡ false
 
-still_is : (names done : List Name) (word : Name) → still_name names done word ≡ None
+still_is : (names done : List Name) (word : Name) → still_name names (is_held done) word ≡ None
     → IsStillName names done word
 still_is names done word clean =
     let both = next_none (known_name names word) (broken ((is_held done word, Measured) ∷ [])) clean in
@@ -142,12 +142,12 @@ live_qubit names done marks word are is =
     }
 
 other_number : (names : List Name) (a b : Name) (q r : ℕ) → place_of names a ≡ Some q
-    → place_of names b ≡ Some r → name_eq a b ≡ false → q ≡ r → ⊥
+    → place_of names b ≡ Some r → is_held (a ∷ []) b ≡ false → q ≡ r → ⊥
 other_number names a b q r pa pb apart e =
     let pb' : place_of names b ≡ Some q = rw (← e) at pb in
-    let same = place-same names a b q pa pb' in
-    let equal = name_eq-same a b same in
-    cc (equal, apart)
+    let equal = name_eq-same b a (sym (place-same names a b q pa pb')) in
+    let apart' = rw equal at apart in
+    cc apart'
 
 -- a record word of a command with operands
 operand_head : (hd : Option Head) → has_operand hd ≡ true
@@ -202,7 +202,8 @@ module _ (half : ℕ) (constants : Bool) (before : Lines) (h : List ℕ)
       → (hd ≡ None → ⊥) → is_closed hd ≡ true
       → names_at is_output before (h ∷ words) ≡ listed
       → AreOutputs (names_at is_defining before []) (measured_in before) listed
-      → list_all (is_settled (measured_in before) listed) (names_at is_defining before []) ≡ true
+      → list_all (is_settled (is_held (measured_in before)) (is_held listed))
+      (names_at is_defining before []) ≡ true
       → IsSound half constants (before ++ (h ∷ words) ∷ [])
   closed_sound hd words listed g no_name no_input no_measure no_command some closed outs are all =
       let here = h ∷ words in
@@ -258,7 +259,7 @@ module _ (half : ℕ) (constants : Bool) (before : Lines) (h : List ℕ)
   first_live a rest gate clean =
       let names = names_at is_defining before [] in
       let is = operand_head (head_of h) gate in
-      let clean' : still_name names (measured_in before) a ≡ None =
+      let clean' : still_name names (is_held (measured_in before)) a ≡ None =
       rw (is.0, names_stay is_defining before h [] is.1) at clean.0 in
       live_qubit names (measured_in before) sound.made.marks a sound.made.measured
       (still_is names (measured_in before) a clean')
@@ -327,12 +328,11 @@ module _ (half : ℕ) (constants : Bool) (before : Lines) (h : List ℕ)
       let done = measured_in before in
       let marks = sound.made.marks in
       let first = first_live a (b ∷ []) (rw g refl) clean.1 in
-      let second : second_name names done (Some a) b ≡ None = rw g at clean.1.1.0 in
-      let both = next_none (still_name names done b) (broken ((name_eq a b, SameOperand) ∷ []))
-      second in
+      let second : second_name names (is_held done) (is_held (a ∷ [])) b ≡ None = rw g at clean.1.1.0 in
+      let both = next_none (still_name names (is_held done) b) _ second in
       let other = live_qubit names done marks b sound.made.measured
       (still_is names done b both.0) in
-      let apart = (unbroken (name_eq a b) SameOperand [] both.1).0 in
+      let apart = (unbroken (is_held (a ∷ []) b) SameOperand [] both.1).0 in
       pushed_sound (a ∷ b ∷ []) (spelled_e a b) (Ent first.number other.number) done marks
       (rw g refl) clean (rw g refl) (measured_other (a ∷ b ∷ []) (rw g refl)) (record {
         is = λ more. rw (first.is more, other.is more) refl;
@@ -464,7 +464,7 @@ module _ (half : ℕ) (constants : Bool) (before : Lines) (h : List ℕ)
       → AreOutputs (names_at is_defining before []) (measured_in before) listed
       → CleanWords (rules_with constants) before (h ∷ listed) rest
       → AreOutputs (names_at is_defining before []) (measured_in before) (listed ++ rest)
-      × (list_all (is_settled (measured_in before) (listed ++ rest))
+      × (list_all (is_settled (is_held (measured_in before)) (is_held (listed ++ rest)))
       (names_at is_defining before []) ≡ true)
   listed_sound listed [] g none are clean =
       let names = names_at is_defining before [] in
@@ -476,7 +476,7 @@ module _ (half : ℕ) (constants : Bool) (before : Lines) (h : List ℕ)
       let all = not_false settled (unbroken (not settled) OutputsLack [] clean').0 in
       let outs = listed_here listed g none in
       let stay = names_stay is_defining before h listed (rw g refl) in
-      let all' : list_all (is_settled (measured_in before) listed) names ≡ true =
+      let all' : list_all (is_settled (is_held (measured_in before)) (is_held listed)) names ≡ true =
       rw (outs, stay) at all in
       rw (append-nil listed) (are, all')
   listed_sound listed (r ∷ rest) g none are clean =
@@ -488,9 +488,8 @@ module _ (half : ℕ) (constants : Bool) (before : Lines) (h : List ℕ)
       let clean' : output_name k.names k.measured k.listed r ≡ None = rw role at clean.0 in
       let outs = listed_here listed g none in
       let stay = names_stay is_defining before h listed (rw g refl) in
-      let due : output_name names done listed r ≡ None = rw (outs, stay) at clean' in
-      let both = next_none (still_name names done r) (broken ((is_held listed r, ListedTwice) ∷ []))
-      due in
+      let due : output_name names (is_held done) (is_held listed) r ≡ None = rw (outs, stay) at clean' in
+      let both = next_none (still_name names (is_held done) r) _ due in
       let still = still_is names done r both.0 in
       let new = (unbroken (is_held listed r) ListedTwice [] both.1).0 in
       rw (← append_assoc listed (r ∷ []) rest)

@@ -69,7 +69,7 @@ outputs_once half constants lines h ends =
     let listed = names_at is_output lines [] in
     let none : Name = [] in
     let distinct = h.made.built.begun.names.distinct in
-    let complete = AllPass-from_list_all (is_settled (measured_in lines) listed) names
+    let complete = AllPass-from_list_all (is_settled (is_held (measured_in lines)) (is_held listed)) names
     (h.complete (rw ends refl)) in
     ListsOnce-same (length names) (λ q. is_held listed (get_or names q none))
     (λ q. not (measured h.made.commands q)) (map (number_in names) listed)

@@ -18,34 +18,6 @@ use Rattle.mc_pattern_text.specs.Judge.{member_name, term_word}
 use Rattle.mc_pattern_text.specs.Kept.{AreMarked, IsSpelled, Joins}
 use Rattle.mc_pattern_text.proofs.Marked.{marked-name}
 
--- a name stands among the words exactly where the signal has it as a member
-pub member_name_by : (names measured : List (List ℕ)) (words : Words) (signal : Signal)
-    (word : List ℕ) (q : ℕ) {s t : Bool} → IsSpelled names words signal
-    → known_name names word ≡ None → place_of names word ≡ Some q → (marks : Bits)
-    → AreMarked names measured marks → is_member signal.members q ≡ s → marks q ≡ t
-    → member_name names measured words word
-    ≡ or_next (broken ((s, ListedTwice) ∷ [])) (broken ((not t, NotMeasured) ∷ []))
-member_name_by names measured words signal word q {s} {t} spelled known place marks done is early =
-    let held : is_held (named words) word ≡ s =
-    sym (has-listed names words signal.members signal.constant word q place spelled) ∙ is in
-    let there : is_held measured word ≡ t =
-    sym (marked-name names measured marks word q done place) ∙ early in
-    rw (known, held, there) refl
-
--- the constant
-pub constant_twice : (names measured : List (List ℕ)) (words : Words) (signal : Signal)
-    (word : List ℕ) → IsSpelled names words signal → is_one word ≡ true
-    → signal.constant ≡ true
-    → term_word true names measured words word ≡ Some (fault ListedTwice)
-constant_twice names measured words signal word spelled is has =
-    rw (is, sym spelled.constant_is ∙ has) refl
-
-pub constant_clean : (names measured : List (List ℕ)) (words : Words) (signal : Signal)
-    (word : List ℕ) → IsSpelled names words signal → is_one word ≡ true
-    → signal.constant ≡ false → term_word true names measured words word ≡ None
-constant_clean names measured words signal word spelled is free =
-    rw (is, sym spelled.constant_is ∙ free) refl
-
 -- what a term adds
 pub joins_member : (names : List (List ℕ)) (s s' : Signal) (word : List ℕ) (q : ℕ)
     → place_of names word ≡ Some q → is_name word ≡ true → is_member s.members q ≡ false
@@ -85,5 +57,3 @@ above_last ps i m q rise long at lt = above_all ps q (λ k p get.
 pub empty_lacks : (ps : List ℕ) (q : ℕ) → length ps ≡ 0 → is_member ps q ≡ false
 empty_lacks [] q none = refl
 empty_lacks (p ∷ ps) q none = absurd (omega arith)
-
-pub ruleset constant_terms = (constant_clean, constant_twice)

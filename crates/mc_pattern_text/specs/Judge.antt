@@ -2,6 +2,7 @@
 use Rattle.std.specs.Prelude.{ℕ, List, [], ◌∷◌, Bool, true, false, not, ◌&&◌, ◌||◌}
 use Rattle.std.specs.Prelude.{◌==◌}
 use Rattle.std.specs.Prelude.{nat_le, length, if◌then◌else◌, Option, None, Some, suc}
+use Rattle.std.specs.Prelude.{option_to_list}
 use Rattle.std.specs.List.{list_all}
 use Rattle.mc_model.specs.Limits.{most_commands}
 use Rattle.mc_model.specs.Names.{name_eq, is_held}
@@ -12,8 +13,7 @@ use Rattle.mc_text.specs.declared.fault.Fault.TheVariants.{OutputsLack}
 use Rattle.mc_text.specs.Heads.{head_of}
 use Rattle.mc_text.specs.Points.{mark_of, point_of}
 use Rattle.mc_text.specs.Judged.{Judgement, Words, Lines, Rules}
-use Rattle.mc_text.specs.Rules.{broken, passed, or_next, new_name, known_name, listed_name}
-use Rattle.mc_text.specs.Rules.{angle_word}
+use Rattle.mc_text.specs.Rules.{broken, passed, or_next, new_name, known_name, angle_word}
 use Rattle.mc_text.specs.Lists.{names_at, operand_at, operands_at}
 use Rattle.mc_rows.specs.Rows.{is_one, has_one, named}
 use Rattle.mc_pattern_text.specs.Roles.{Role, record_word, input, prepared, operand, second, angle}
@@ -28,71 +28,74 @@ use Rattle.mc_pattern_text.specs.Value.{spelled_commands}
 abbrev pub measured_in : Lines → List (List ℕ)
 measured_in before = operands_at 0 is_measuring before
 
--- what a word is judged by: the names that are defined, that were measured in earlier lines and
--- that are listed as outputs, the first operand of its line, the words before it in the signals of
--- its line, and the number of commands in the lines before
+-- whether a name passes
+abbrev pub Test : Type 0
+Test = List ℕ → Bool
+
+-- what stands before a word in a signal: whether a name does, and whether the constant does
+pub record Terms : Type 0 where
+  pub has : Test
+  pub one : Bool
+
+abbrev pub terms_in : Words → Terms
+terms_in words = record { has = is_held (named words); one = has_one words }
+
+-- what a word is judged by: the names that are defined; whether a name was measured in an earlier
+-- line, is listed as an output, and is the first operand of the line; what stands before in the
+-- signals of the line; and the number of commands in the lines before
 pub record Known : Type 0 where
   pub names : List (List ℕ)
-  pub measured : List (List ℕ)
-  pub listed : List (List ℕ)
-  pub operand : Option (List ℕ)
-  pub s : Words
-  pub t : Words
+  pub measured : Test
+  pub listed : Test
+  pub first : Test
+  pub s : Terms
+  pub t : Terms
   pub commands : ℕ
 
 abbrev pub known_at : Lines → Words → Known
 known_at before here = record {
   names = names_at is_defining before here;
-  measured = measured_in before;
-  listed = names_at is_output before here;
-  operand = operand_at 0 has_operand here;
-  s = first_signal here;
-  t = second_signal here;
+  measured = is_held (measured_in before);
+  listed = is_held (names_at is_output before here);
+  first = is_held (option_to_list (operand_at 0 has_operand here));
+  s = terms_in (first_signal here);
+  t = terms_in (second_signal here);
   commands = length (spelled_commands before);
 }
 
 -- a qubit that was not measured
-abbrev pub still_name : List (List ℕ) → List (List ℕ) → List ℕ → Option Judgement
+abbrev pub still_name : List (List ℕ) → Test → List ℕ → Option Judgement
 still_name names measured word =
-    or_next (known_name names word) (broken ((is_held measured word, Measured) ∷ []))
+    or_next (known_name names word) (broken ((measured word, Measured) ∷ []))
 
--- whether a word is the first operand
-abbrev pub is_same : Option (List ℕ) → List ℕ → Bool
-is_same None word = false
-is_same (Some first) word = name_eq first word
-
-abbrev pub second_name : List (List ℕ) → List (List ℕ) → Option (List ℕ) → List ℕ
-    → Option Judgement
+abbrev pub second_name : List (List ℕ) → Test → Test → List ℕ → Option Judgement
 second_name names measured first word =
-    or_next (still_name names measured word) (broken ((is_same first word, SameOperand) ∷ []))
+    or_next (still_name names measured word) (broken ((first word, SameOperand) ∷ []))
 
-abbrev pub output_name : List (List ℕ) → List (List ℕ) → List (List ℕ) → List ℕ → Option Judgement
+abbrev pub output_name : List (List ℕ) → Test → Test → List ℕ → Option Judgement
 output_name names measured listed word =
-    or_next (still_name names measured word) (broken ((is_held listed word, ListedTwice) ∷ []))
+    or_next (still_name names measured word) (broken ((listed word, ListedTwice) ∷ []))
 
--- a member of a signal, behind other words of it
-abbrev pub member_name : List (List ℕ) → List (List ℕ) → Words → List ℕ → Option Judgement
-member_name names measured signal word =
-    or_next (listed_name names (named signal) word)
-    (broken ((not (is_held measured word), NotMeasured) ∷ []))
+-- a term of a signal behind others: a member, or the constant where it may stand
+abbrev pub member_name : List (List ℕ) → Test → Terms → List ℕ → Option Judgement
+member_name names measured terms word =
+    or_next (known_name names word)
+    (broken ((terms.has word, ListedTwice) ∷ (not (measured word), NotMeasured) ∷ []))
 
--- a term of a signal: a member, or the constant where it may stand
-abbrev pub term_word : Bool → List (List ℕ) → List (List ℕ) → Words → List ℕ
-    → Option Judgement
-term_word constants names measured signal word =
+abbrev pub term_word : Bool → List (List ℕ) → Test → Terms → List ℕ → Option Judgement
+term_word constants names measured terms word =
     if constants && is_one word
-    then broken ((has_one signal, ListedTwice) ∷ [])
-    else member_name names measured signal word
+    then broken ((terms.one, ListedTwice) ∷ [])
+    else member_name names measured terms word
 
 -- a word that begins a signal
 abbrev pub opening_word : List ℕ → Option Judgement
 opening_word word =
     broken ((not (is_first (mark_of word) || is_second (mark_of word)), NotFixed) ∷ [])
 
-abbrev pub first_term_word : Bool → List (List ℕ) → List (List ℕ) → Words → List ℕ
-    → Option Judgement
-first_term_word constants names measured signal word =
-    if is_second (mark_of word) then None else term_word constants names measured signal word
+abbrev pub first_term_word : Bool → List (List ℕ) → Test → Terms → List ℕ → Option Judgement
+first_term_word constants names measured terms word =
+    if is_second (mark_of word) then None else term_word constants names measured terms word
 
 -- a record word behind a line with the record word `last`, where there are so many commands
 abbrev pub next_record : Option Head → ℕ → List ℕ → Option Judgement
@@ -106,7 +109,7 @@ judge_by constants k last record_word word = next_record last k.commands word
 judge_by constants k last input word = new_name k.names word
 judge_by constants k last prepared word = new_name k.names word
 judge_by constants k last operand word = still_name k.names k.measured word
-judge_by constants k last second word = second_name k.names k.measured k.operand word
+judge_by constants k last second word = second_name k.names k.measured k.first word
 judge_by constants k last angle word = angle_word word
 judge_by constants k last opening word = opening_word word
 judge_by constants k last first_term word =
@@ -117,8 +120,8 @@ judge_by constants k last output word = output_name k.names k.measured k.listed 
 judge_by constants k last surplus word = broken ((true, Surplus) ∷ [])
 
 -- whether a qubit is measured or an output
-abbrev pub is_settled : List (List ℕ) → List (List ℕ) → List ℕ → Bool
-is_settled measured listed name = is_held measured name || is_held listed name
+abbrev pub is_settled : Test → Test → List ℕ → Bool
+is_settled measured listed name = measured name || listed name
 
 -- the end of a line, by the role that a further word would have; no line is empty
 abbrev pub lacks_by : Known → Role → Option Judgement

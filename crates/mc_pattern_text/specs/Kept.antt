@@ -1,6 +1,6 @@
 -- What a reader keeps of a pattern's lines, and what a word and the end of a line do to it.
 use Rattle.std.specs.Prelude.{◌≡◌, ℕ, ◌+◌, ◌<◌, List, [], ◌∷◌, ◌++◌, Bool, true}
-use Rattle.std.specs.Prelude.{false, map, length}
+use Rattle.std.specs.Prelude.{false, map, length, nat_eq}
 use Rattle.std.specs.Prelude.{Option, None, Some, option_to_list}
 use Rattle.std.specs.List.{list_all}
 use Rattle.mc_angle.specs.Angle.{angle_of}
@@ -12,7 +12,6 @@ use Rattle.mc_model.specs.Signals.{Signal, no_signal}
 use Rattle.mc_model.specs.Pattern as plain
 use Rattle.mc_text.specs.declared.head.Head.{Head}
 use Rattle.mc_text.specs.declared.head.Head.TheVariants.{N, E, M, X, Z}
-use Rattle.mc_text.specs.declared.point.Mark.{Mark}
 use Rattle.mc_text.specs.declared.point.Point.{Point}
 use Rattle.mc_text.specs.Judged.{Words, Lines}
 use Rattle.mc_text.specs.Rules.{number_in, AreNumbers}
@@ -21,12 +20,13 @@ use Rattle.mc_rows.specs.Kept.{AreMembers}
 use Rattle.mc_pattern.specs.Commands.{plain_command}
 use Rattle.mc_pattern_text.specs.declared.reader.Reader.{Reader}
 use Rattle.mc_pattern_text.specs.declared.reader.Operands.{Operands}
-use Rattle.mc_pattern_text.specs.Roles.{role_of, role_behind, is_defining, is_input}
+use Rattle.mc_pattern_text.specs.Roles.{role_of, is_defining, is_input}
 use Rattle.mc_pattern_text.specs.Roles.{is_entangling, is_measuring}
 use Rattle.mc_pattern_text.specs.Roles.{is_command, is_output}
 use Rattle.mc_pattern_text.specs.Value.{first_of, second_of, first_signal, second_signal}
 use Rattle.mc_pattern_text.specs.Value.{command_by, spelled_commands}
-use Rattle.mc_pattern_text.specs.Judge.{Known, measured_in, judge_by, lacks_by}
+use Rattle.mc_pattern_text.specs.Judge.{Test, Terms, Known, measured_in, judge_by}
+use Rattle.mc_pattern_text.specs.Judge.{lacks_by}
 
 -- the names of a list are held, and marks stand at their numbers
 pub record AreMarked (names list : List (List ℕ)) (marks : Bits) : Type 0 where
@@ -58,30 +58,22 @@ pub record IsKept {half : ℕ} (k : Reader half) (before : Lines) (here : Words)
   pub commands : (more : List (List ℕ)) → map (plain_command {h = half}) k.commands.items
       ≡ map (command_by half (k.names ++ more)) (spelled_commands before)
 
--- the first operand of a line has this number
-pub record IsOperand (names : List (List ℕ)) (first : Option (List ℕ)) (number : ℕ) : Type 0 where
-  pub name : List ℕ
-  pub is : first ≡ Some name
-  pub place : place_of names name ≡ Some number
+-- what a reader knows of names it knows by their numbers
+abbrev pub numbered : List (List ℕ) → Bits → Test
+numbered names test word = test (number_in names word)
 
--- what stands before a word on its line
-pub record Stands {half : ℕ} (names : List (List ℕ)) (marks : Bits) (o : Operands half) (p : Point)
-    (measured : List (List ℕ)) (s t : Words) (first : Option (List ℕ)) : Type 0 where
-  pub are_measured : AreMarked names measured marks
-  pub s_is : IsSpelled names s o.s
-  pub t_is : IsSpelled names t o.t
-  pub operand : p.count ≡ 2 → is_entangling p.head ≡ true → IsOperand names first o.first
+abbrev pub terms_by : List (List ℕ) → Signal → Terms
+terms_by names s = record { has = numbered names (is_member s.members); one = s.constant }
 
-abbrev pub known_by : List (List ℕ) → List (List ℕ) → List (List ℕ) → Words → Words
-    → Option (List ℕ) → ℕ → Known
-known_by names measured listed s t first commands = record {
-  names = names;
-  measured = measured;
-  listed = listed;
-  operand = first;
-  s = s;
-  t = t;
-  commands = commands;
+abbrev pub known_of : {half : ℕ} → Reader half → Known
+known_of k = record {
+  names = k.names;
+  measured = numbered k.names (bits_of k.marks);
+  listed = numbered k.names (is_member k.outputs.items);
+  first = numbered k.names (λ q. nat_eq q k.operands.first);
+  s = terms_by k.names k.operands.s;
+  t = terms_by k.names k.operands.t;
+  commands = length k.commands.items;
 }
 
 -- terms go into a signal, where there are any
@@ -102,29 +94,6 @@ pub record Fills {half : ℕ} (names : List (List ℕ)) (o o' : Operands half) (
   pub s : Joins names o.s o'.s (first_of (role_of p) word)
   pub t : Joins names o.t o'.t (second_of (role_of p) word)
 
--- what a word behind the angle of a measurement with nothing against it does
-pub record TakesBehind {half : ℕ} (constants : Bool) (names : List (List ℕ)) (marks : Bits)
-    (o o' : Operands half) (mark : Option Mark) (word : List ℕ) : Type 0 where
-  pub clean : (measured listed : List (List ℕ)) (s t : Words) (first : Option (List ℕ))
-      (commands : ℕ) (last : Option Head) → AreMarked names measured marks
-      → IsSpelled names s o.s → IsSpelled names t o.t
-      → judge_by constants (known_by names measured listed s t first commands) last
-      (role_behind mark) word ≡ None
-  pub first : o'.first ≡ o.first
-  pub second : o'.second ≡ o.second
-  pub angle : o'.angle ≡ o.angle
-  pub s : Joins names o.s o'.s (first_of (role_behind mark) word)
-  pub t : Joins names o.t o'.t (second_of (role_behind mark) word)
-
--- what a word of a command with nothing against it does to the operands
-pub record Takes {half : ℕ} (constants : Bool) (names : List (List ℕ)) (marks : Bits)
-    (o o' : Operands half) (p : Point) (word : List ℕ) : Type 0 where
-  pub clean : (measured listed : List (List ℕ)) (s t : Words) (first : Option (List ℕ))
-      (commands : ℕ) → Stands names marks o p measured s t first
-      → judge_by constants (known_by names measured listed s t first commands) p.last (role_of p)
-      word ≡ None
-  pub fills : Fills names o o' p word
-
 -- an output is listed, where there is one
 abbrev pub Lists : List (List ℕ) → List ℕ → List ℕ → List (List ℕ) → Type 0
 Lists names outputs outputs' [] = outputs' ≡ outputs
@@ -133,12 +102,7 @@ Lists names outputs outputs' (word ∷ words) =
 
 -- what a word with nothing against it does
 pub record Moves {half : ℕ} (k k' : Reader half) (p : Point) (word : List ℕ) : Type 0 where
-  pub clean : (measured listed : List (List ℕ)) (s t : Words) (first : Option (List ℕ))
-      → Stands k.names (bits_of k.marks) k.operands p measured s t first
-      → AreNumbers k.names listed k.outputs.items
-      → judge_by k.constants
-      (known_by k.names measured listed s t first (length k.commands.items)) p.last (role_of p)
-      word ≡ None
+  pub clean : judge_by k.constants (known_of k) p.last (role_of p) word ≡ None
   pub constants : k'.constants ≡ k.constants
   pub names : k'.names ≡ k.names ++ added is_defining p word
   pub inputs : k'.inputs ≡ k.inputs + length (added is_input p word)
@@ -163,10 +127,7 @@ marks_with _ q marks = marks
 
 -- what the end of a line with nothing against it does
 pub record Ends {half : ℕ} (k k' : Reader half) (p : Point) : Type 0 where
-  pub clean : (measured listed : List (List ℕ)) (s t : Words) (first : Option (List ℕ))
-      (commands : ℕ) → AreMarked k.names measured (bits_of k.marks)
-      → AreNumbers k.names listed k.outputs.items
-      → lacks_by (known_by k.names measured listed s t first commands) (role_of p) ≡ None
+  pub clean : lacks_by (known_of k) (role_of p) ≡ None
   pub constants : k'.constants ≡ k.constants
   pub valid : AreNames k.names
   pub names : k'.names ≡ k.names

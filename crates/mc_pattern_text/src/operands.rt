@@ -1,7 +1,7 @@
 //! What the words of a command do.
 
 ghost use Rattle.std.specs.Prelude.{◌≡◌, ℕ, ◌*◌, ◌<◌, List, Option, [], ◌∷◌, false, true, OnOk};
-ghost use Rattle.std.specs.Prelude.{IfOk, IfErr, IsTrue, Some, None};
+ghost use Rattle.std.specs.Prelude.{IfOk, IfErr, IsTrue, Some, None, nat_eq};
 ghost use Rattle.std.specs.Option.{option_map};
 ghost use Rattle.mc_angle.specs.Angle.{angle_of};
 ghost use Rattle.mc_model.specs.Bits.{bits_of};
@@ -10,19 +10,17 @@ ghost use Rattle.mc_model.specs.Names.{place_of};
 ghost use Rattle.mc_model.specs.Numbers.{is_member};
 ghost use Rattle.mc_model.specs.Signals.{no_signal};
 ghost use Rattle.mc_pattern.specs.Commands.{plain_command};
-ghost use Rattle.mc_text.specs.Points.{mark_of};
-ghost use Rattle.mc_text.specs.Rules.{angle_word};
+ghost use Rattle.mc_text.specs.declared.fault.Fault.TheVariants.{ListedTwice};
+ghost use Rattle.mc_text.specs.Rules.{broken, angle_word};
 ghost use Rattle.mc_text.specs.Stops.{IsStop};
-ghost use Rattle.mc_text.specs.declared.head.Head.{Head as PlainHead};
-ghost use Rattle.mc_pattern_text.specs.Roles.{has_operand, role_of, role_behind};
+ghost use Rattle.mc_pattern_text.specs.Roles.{has_operand, role_of};
 ghost use Rattle.mc_rows.specs.Rows.{is_one};
 ghost use Rattle.mc_pattern_text.specs.Judge.{judge_by, still_name, second_name, member_name};
 ghost use Rattle.mc_pattern_text.specs.Judge.{opening_word, term_word};
-ghost use Rattle.mc_pattern_text.specs.Kept.{AreMarked, IsOperand, IsSpelled, Joins};
-ghost use Rattle.mc_pattern_text.specs.Kept.{Stands, Takes, TakesBehind, known_by};
-ghost use Rattle.mc_pattern_text.specs.Kept.{command_with};
+ghost use Rattle.mc_pattern_text.specs.Kept.{Joins, Moves, command_with, known_of, numbered};
+ghost use Rattle.mc_pattern_text.specs.Kept.{terms_by};
 
-use crate::reader::Operands;
+use crate::reader::{Operands, Reader};
 use mc_angle::Angle;
 use mc_names::Names;
 use mc_pattern::Command;
@@ -81,13 +79,10 @@ pub(crate) fn is_marked(marks: &[bool], q: u16) -> bool
 
 /// The number of a qubit that was not measured.
 pub(crate) fn still(names: &Names, marks: &[bool], word: &[u8]) -> Result<u16, Stop>
-    ensures clean { OnOk result ((measured : List (List ℕ))
-        → AreMarked names.now measured (bits_of marks.now)
-        → still_name names.now measured word.now ≡ None) }
+    ensures clean { OnOk result (still_name names.now (numbered names.now (bits_of marks.now)) word.now ≡ None) }
     ensures place { IfOk result (λ q. place_of names.now word.now ≡ Some q) }
-    ensures err { IfErr result (λ stop. (measured : List (List ℕ))
-        → AreMarked names.now measured (bits_of marks.now)
-        → IsStop stop (still_name names.now measured word.now)) }
+    ensures err { IfErr result (λ stop.
+        IsStop stop (still_name names.now (numbered names.now (bits_of marks.now)) word.now)) }
 {
     match known(names, word) {
         Ok(number) => {
@@ -102,13 +97,10 @@ pub(crate) fn still(names: &Names, marks: &[bool], word: &[u8]) -> Result<u16, S
 
 /// Takes the first operand of a command.
 fn take_first(names: &Names, marks: &[bool], first: &mut u16, word: &[u8]) -> Result<(), Stop>
-    ensures clean { OnOk result ((measured : List (List ℕ))
-        → AreMarked names.now measured (bits_of marks.now)
-        → still_name names.now measured word.now ≡ None) }
+    ensures clean { OnOk result (still_name names.now (numbered names.now (bits_of marks.now)) word.now ≡ None) }
     ensures place { OnOk result (place_of names.now word.now ≡ Some first.new) }
-    ensures err { IfErr result (λ stop. (measured : List (List ℕ))
-        → AreMarked names.now measured (bits_of marks.now)
-        → IsStop stop (still_name names.now measured word.now)) }
+    ensures err { IfErr result (λ stop.
+        IsStop stop (still_name names.now (numbered names.now (bits_of marks.now)) word.now)) }
 {
     match still(names, marks, word) {
         Ok(number) => {
@@ -127,13 +119,11 @@ fn take_second(
     second: &mut u16,
     word: &[u8],
 ) -> Result<(), Stop>
-    ensures clean { OnOk result ((measured : List (List ℕ)) (name : Option (List ℕ))
-        → AreMarked names.now measured (bits_of marks.now) → IsOperand names.now name first
-        → second_name names.now measured name word.now ≡ None) }
+    ensures clean { OnOk result (second_name names.now (numbered names.now (bits_of marks.now))
+        (numbered names.now (λ q. nat_eq q first)) word.now ≡ None) }
     ensures place { OnOk result (place_of names.now word.now ≡ Some second.new) }
-    ensures err { IfErr result (λ stop. (measured : List (List ℕ)) (name : Option (List ℕ))
-        → AreMarked names.now measured (bits_of marks.now) → IsOperand names.now name first
-        → IsStop stop (second_name names.now measured name word.now)) }
+    ensures err { IfErr result (λ stop. IsStop stop (second_name names.now
+        (numbered names.now (bits_of marks.now)) (numbered names.now (λ q. nat_eq q first)) word.now)) }
 {
     match still(names, marks, word) {
         Ok(number) => {
@@ -185,13 +175,11 @@ fn is_member_of(signal: &Signal, number: u16) -> bool
 
 /// Takes a member of a signal.
 fn take_member(names: &Names, marks: &[bool], signal: &mut Signal, word: &[u8]) -> Result<(), Stop>
-    ensures clean { OnOk result ((measured words : List (List ℕ))
-        → AreMarked names.now measured (bits_of marks.now) → IsSpelled names.now words signal.old
-        → member_name names.now measured words word.now ≡ None) }
+    ensures clean { OnOk result (member_name names.now (numbered names.now (bits_of marks.now))
+        (terms_by names.now signal.old) word.now ≡ None) }
     ensures joins { OnOk result (Joins names.now signal.old signal.new (word.now ∷ [])) }
-    ensures err { IfErr result (λ stop. (measured words : List (List ℕ))
-        → AreMarked names.now measured (bits_of marks.now) → IsSpelled names.now words signal.old
-        → IsStop stop (member_name names.now measured words word.now)) }
+    ensures err { IfErr result (λ stop. IsStop stop (member_name names.now
+        (numbered names.now (bits_of marks.now)) (terms_by names.now signal.old) word.now)) }
 {
     // the proof needs that there are at most 256 names
     let _count = names.len();
@@ -212,15 +200,11 @@ fn take_member(names: &Names, marks: &[bool], signal: &mut Signal, word: &[u8]) 
 }
 
 /// Takes the constant of a signal.
-#[tactic(auto, using(crate::proofs::Terms::constant_terms))]
 fn take_constant(signal: &mut Signal, word: &[u8]) -> Result<(), Stop>
     requires { is_one word.now ≡ true }
-    ensures clean { OnOk result ((names measured words : List (List ℕ))
-        → IsSpelled names words signal.old → term_word true names measured words word.now ≡ None) }
+    ensures clean { OnOk result (signal.old.constant ≡ false) }
     ensures joins { OnOk result ((names : List (List ℕ)) → Joins names signal.old signal.new (word.now ∷ [])) }
-    ensures err { IfErr result (λ stop. (names measured words : List (List ℕ))
-        → IsSpelled names words signal.old
-        → IsStop stop (term_word true names measured words word.now)) }
+    ensures err { IfErr result (λ stop. IsStop stop (broken ((signal.old.constant, ListedTwice) ∷ []))) }
 {
     if signal.constant() {
         return Err(Stop::Fault(Fault::ListedTwice));
@@ -237,13 +221,11 @@ fn take_term(
     signal: &mut Signal,
     word: &[u8],
 ) -> Result<(), Stop>
-    ensures clean { OnOk result ((measured words : List (List ℕ))
-        → AreMarked names.now measured (bits_of marks.now) → IsSpelled names.now words signal.old
-        → term_word constants names.now measured words word.now ≡ None) }
+    ensures clean { OnOk result (term_word constants names.now (numbered names.now (bits_of marks.now))
+        (terms_by names.now signal.old) word.now ≡ None) }
     ensures joins { OnOk result (Joins names.now signal.old signal.new (word.now ∷ [])) }
-    ensures err { IfErr result (λ stop. (measured words : List (List ℕ))
-        → AreMarked names.now measured (bits_of marks.now) → IsSpelled names.now words signal.old
-        → IsStop stop (term_word constants names.now measured words word.now)) }
+    ensures err { IfErr result (λ stop. IsStop stop (term_word constants names.now
+        (numbered names.now (bits_of marks.now)) (terms_by names.now signal.old) word.now)) }
 {
     if constants && is_constant(word) {
         take_constant(signal, word)
@@ -263,63 +245,46 @@ fn take_opening(word: &[u8]) -> Result<(), Stop>
     }
 }
 
-/// Takes a word behind the angle of a measurement.
-fn take_behind<const H: usize>(
-    names: &Names,
-    marks: &[bool],
-    constants: bool,
-    operands: &mut Operands<H>,
-    mark: Option<Mark>,
-    word: &[u8],
-) -> Result<(), Stop>
-    ensures ok { OnOk result
-        (TakesBehind constants names.now (bits_of marks.now) operands.old operands.new mark word.now) }
-    ensures err { IfErr result (λ stop. (measured listed s t : List (List ℕ)) (first : Option (List ℕ))
-        (commands : ℕ) (last : Option PlainHead) → AreMarked names.now measured (bits_of marks.now)
-        → IsSpelled names.now s operands.old.s → IsSpelled names.now t operands.old.t
-        → IsStop stop (judge_by constants (known_by names.now measured listed s t first commands) last
-        (role_behind mark) word.now)) }
-{
-    match mark {
-        None => take_opening(word),
-        Some(Mark::S) => {
-            if Mark::read(word) == Some(Mark::T) {
-                return Ok(());
-            }
-            take_term(names, marks, constants, &mut operands.s, word)
-        }
-        Some(Mark::T) => take_term(names, marks, constants, &mut operands.t, word),
-        Some(Mark::Colon) => Err(Stop::Fault(Fault::Surplus)),
-    }
-}
-
 /// Judges a word of a command that has operands, and takes it.
-pub(crate) fn take_word<const H: usize>(
-    names: &Names,
-    marks: &[bool],
-    constants: bool,
-    operands: &mut Operands<H>,
+pub(crate) fn take_operand<const H: usize>(
+    kept: &mut Reader<H>,
     point: Point,
     word: &[u8],
 ) -> Result<(), Stop>
     requires later { point.count ≡ 0 → ⊥ }
     requires command { has_operand point.head ≡ true }
-    ensures ok { OnOk result
-        (Takes constants names.now (bits_of marks.now) operands.old operands.new point word.now) }
-    ensures err { IfErr result (λ stop. (measured listed s t : List (List ℕ)) (first : Option (List ℕ))
-        (commands : ℕ) → Stands names.now (bits_of marks.now) operands.old point measured s t first
-        → IsStop stop (judge_by constants (known_by names.now measured listed s t first commands)
-        point.last (role_of point) word.now)) }
+    ensures ok { OnOk result (Moves kept.old kept.new point word.now) }
+    ensures err { IfErr result (λ stop. IsStop stop
+        (judge_by kept.old.constants (known_of kept.old) point.last (role_of point) word.now)) }
 {
-    match (point.head, point.count) {
-        (_, 1) => take_first(names, marks, &mut operands.first, word),
-        (Some(Head::E), 2) => {
-            take_second(names, marks, operands.first, &mut operands.second, word)
+    let operands = &mut kept.operands;
+    match (point.head, point.count, point.mark) {
+        (_, 1, _) => take_first(&kept.names, &kept.marks, &mut operands.first, word),
+        (Some(Head::E), 2, _) => {
+            let first = operands.first;
+            take_second(&kept.names, &kept.marks, first, &mut operands.second, word)
         }
-        (Some(Head::M), 2) => take_angle(&mut operands.angle, word),
-        (Some(Head::M), _) => take_behind(names, marks, constants, operands, point.mark, word),
-        (Some(Head::X), _) => take_term(names, marks, constants, &mut operands.s, word),
-        (Some(Head::Z), _) => take_term(names, marks, constants, &mut operands.s, word),
+        (Some(Head::M), 2, _) => take_angle(&mut operands.angle, word),
+        (Some(Head::M), _, None) => take_opening(word),
+        (Some(Head::M), _, Some(Mark::S)) if Mark::read(word) == Some(Mark::T) => Ok(()),
+        (Some(Head::M), _, Some(Mark::S)) | (Some(Head::X | Head::Z), _, _) => {
+            take_term(
+                &kept.names,
+                &kept.marks,
+                kept.constants,
+                &mut operands.s,
+                word,
+            )
+        }
+        (Some(Head::M), _, Some(Mark::T)) => {
+            take_term(
+                &kept.names,
+                &kept.marks,
+                kept.constants,
+                &mut operands.t,
+                word,
+            )
+        }
         _ => Err(Stop::Fault(Fault::Surplus)),
     }
 }

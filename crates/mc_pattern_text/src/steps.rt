@@ -9,16 +9,15 @@ ghost use Rattle.mc_pattern.specs.Commands.{plain_command};
 ghost use Rattle.mc_model.specs.Bits.{bits_of};
 ghost use Rattle.mc_model.specs.Numbers.{is_member};
 ghost use Rattle.mc_model.specs.Names.{place_of};
-ghost use Rattle.mc_text.specs.Rules.{new_name, AreNumbers};
+ghost use Rattle.mc_text.specs.Rules.{new_name};
 ghost use Rattle.mc_text.specs.Stops.{IsStop};
 ghost use Rattle.mc_pattern_text.specs.Roles.{role_of, may_follow, is_command as command_word};
 ghost use Rattle.mc_pattern_text.specs.Roles.{is_measuring};
 ghost use Rattle.mc_pattern_text.specs.Judge.{judge_by, lacks_by, next_record, output_name};
 ghost use Rattle.mc_pattern_text.specs.Judge.{is_settled};
-ghost use Rattle.mc_pattern_text.specs.Kept.{AreMarked, Stands, Lists, Moves, Ends, known_by};
-ghost use Rattle.mc_pattern_text.specs.Kept.{marks_with};
+ghost use Rattle.mc_pattern_text.specs.Kept.{Lists, Moves, Ends, known_of, marks_with, numbered};
 
-use crate::operands::{is_marked, still, take_word};
+use crate::operands::{is_marked, still, take_operand};
 use crate::reader::{Operands, Reader};
 use mc_names::Names;
 use mc_pattern::Command;
@@ -98,15 +97,11 @@ fn take_output(
     outputs: &mut Vec<u16>,
     word: &[u8],
 ) -> Result<(), Stop>
-    ensures clean { OnOk result ((measured listed : List (List ℕ))
-        → AreMarked names.now measured (bits_of marks.now)
-        → AreNumbers names.now listed outputs.old.items
-        → output_name names.now measured listed word.now ≡ None) }
+    ensures clean { OnOk result (output_name names.now (numbered names.now (bits_of marks.now))
+        (numbered names.now (is_member outputs.old.items)) word.now ≡ None) }
     ensures lists { OnOk result (Lists names.now outputs.old.items outputs.new.items (word.now ∷ [])) }
-    ensures err { IfErr result (λ stop. (measured listed : List (List ℕ))
-        → AreMarked names.now measured (bits_of marks.now)
-        → AreNumbers names.now listed outputs.old.items
-        → IsStop stop (output_name names.now measured listed word.now)) }
+    ensures err { IfErr result (λ stop. IsStop stop (output_name names.now
+        (numbered names.now (bits_of marks.now)) (numbered names.now (is_member outputs.old.items)) word.now)) }
 {
     let number = match still(names, marks, word) {
         Ok(number) => number,
@@ -134,12 +129,8 @@ pub(crate) fn take<const H: usize>(
     word: &[u8],
 ) -> Result<(), Stop>
     ensures ok { OnOk result (Moves kept.old kept.new point word.now) }
-    ensures err { IfErr result (λ stop. (measured listed s t : List (List ℕ)) (first : Option (List ℕ))
-        → Stands kept.old.names (bits_of kept.old.marks) kept.old.operands point measured s t first
-        → AreNumbers kept.old.names listed kept.old.outputs.items
-        → IsStop stop (judge_by kept.old.constants
-        (known_by kept.old.names measured listed s t first (length kept.old.commands.items))
-        point.last (role_of point) word.now)) }
+    ensures err { IfErr result (λ stop. IsStop stop
+        (judge_by kept.old.constants (known_of kept.old) point.last (role_of point) word.now)) }
 {
     match (point.head, point.count) {
         (_, 0) => take_record(point.last, kept.commands.len(), word),
@@ -152,16 +143,7 @@ pub(crate) fn take<const H: usize>(
         }
         (Some(Head::N), 1) => take_prepared(&mut kept.names, &mut kept.operands.first, word),
         (Some(Head::Out), _) => take_output(&kept.names, &kept.marks, &mut kept.outputs, word),
-        (Some(Head::E | Head::M | Head::X | Head::Z), _) => {
-            take_word(
-                &kept.names,
-                &kept.marks,
-                kept.constants,
-                &mut kept.operands,
-                point,
-                word,
-            )
-        }
+        (Some(Head::E | Head::M | Head::X | Head::Z), _) => take_operand(kept, point, word),
         _ => Err(Stop::Fault(Fault::Surplus)),
     }
 }
@@ -180,28 +162,23 @@ fn settles(count: u16, marks: &[bool], numbers: &[u16]) -> bool
 
 /// Whether each name is measured or listed.
 fn settles_each(names: &Names, marks: &[bool], numbers: &[u16]) -> bool
-    ensures { (measured listed : List (List ℕ))
-        → AreMarked names.now measured (bits_of marks.now)
-        → AreNumbers names.now listed numbers.now → result ≡ list_all (is_settled measured listed) names.now }
+    ensures { result ≡ list_all (is_settled (numbered names.now (bits_of marks.now))
+        (numbered names.now (is_member numbers.now))) names.now }
 {
     settles(names.len(), marks, numbers)
 }
 
 /// Judges the end of a line.
-fn end_words(names: &Names, marks: &[bool], outputs: &[u16], point: Point) -> Result<(), Stop>
-    ensures clean { OnOk result ((measured listed s t : List (List ℕ)) (first : Option (List ℕ))
-        (commands : ℕ) → AreMarked names.now measured (bits_of marks.now) → AreNumbers names.now listed outputs.now
-        → lacks_by (known_by names.now measured listed s t first commands) (role_of point) ≡ None) }
-    ensures err { IfErr result (λ stop. (measured listed s t : List (List ℕ)) (first : Option (List ℕ))
-        (commands : ℕ) → AreMarked names.now measured (bits_of marks.now) → AreNumbers names.now listed outputs.now
-        → IsStop stop (lacks_by (known_by names.now measured listed s t first commands) (role_of point))) }
+fn end_words<const H: usize>(kept: &Reader<H>, point: Point) -> Result<(), Stop>
+    ensures clean { OnOk result (lacks_by (known_of kept.now) (role_of point) ≡ None) }
+    ensures err { IfErr result (λ stop. IsStop stop (lacks_by (known_of kept.now) (role_of point))) }
 {
     match (point.head, point.count) {
         (_, 0) => Err(Stop::Fault(Fault::LineEnds)),
         (Some(Head::N | Head::X | Head::Z), 1) => Err(Stop::Fault(Fault::LineEnds)),
         (Some(Head::E | Head::M), 1 | 2) => Err(Stop::Fault(Fault::LineEnds)),
         (Some(Head::Out), _) => {
-            if settles_each(names, marks, outputs) {
+            if settles_each(&kept.names, &kept.marks, kept.outputs.as_slice()) {
                 Ok(())
             } else {
                 Err(Stop::Fault(Fault::OutputsLack))
@@ -244,12 +221,9 @@ fn append<const H: usize>(
 /// Judges the end of a line and takes its command.
 pub(crate) fn end_command<const H: usize>(kept: &mut Reader<H>, point: Point) -> Result<(), Stop>
     ensures ok { OnOk result (Ends kept.old kept.new point) }
-    ensures err { IfErr result (λ stop. (measured listed s t : List (List ℕ)) (first : Option (List ℕ))
-        (commands : ℕ) → AreMarked kept.old.names measured (bits_of kept.old.marks)
-        → AreNumbers kept.old.names listed kept.old.outputs.items
-        → IsStop stop (lacks_by (known_by kept.old.names measured listed s t first commands) (role_of point))) }
+    ensures err { IfErr result (λ stop. IsStop stop (lacks_by (known_of kept.old) (role_of point))) }
 {
-    if let Err(stop) = end_words(&kept.names, &kept.marks, kept.outputs.as_slice(), point) {
+    if let Err(stop) = end_words(kept, point) {
         return Err(stop);
     }
     // the proof needs that the names are distinct
