@@ -1,13 +1,13 @@
 -- What is kept of the words of a line goes on with one more word.
-use Rattle.std.proofs.Common.{◌≡◌, ℕ, ◌+◌, ◌<◌, List, [], ◌∷◌, ◌++◌, Bool, true, false}
-use Rattle.std.proofs.Common.{◌||◌, Option, Some, map, refl, sym, subst, ap}
-use Rattle.std.proofs.Common.{◌∙◌, arith, ◌==◌, nat_eq}
-use Rattle.std.proofs.lemmas.Bool.{eq-eqb, eqb-true}
-use Rattle.std.proofs.lemmas.List.{append-nil, map-append}
-use Rattle.std.proofs.lemmas.List.Folds.{list_all-append, list_any-append}
+use Rattle.std.proofs.Common.{◌≡◌, ℕ, ◌+◌, ◌<◌, List, [], ◌∷◌, ◌++◌, Bool}
+use Rattle.std.proofs.Common.{true, ◌||◌, Option, Some, map, refl, sym, subst, ap, ◌∙◌}
+use Rattle.std.proofs.Common.{arith, nat_eq, eq-eqb, ne_eqb, inl, inr, append-nil}
+use Rattle.std.proofs.lemmas.Bool.{cases_Bool, cases_eq}
+use Rattle.std.proofs.Math.Bool.{or-false}
+use Rattle.std.proofs.lemmas.List.Folds.{list_any-append}
 use Rattle.mc_model.specs.Bits.{Bits}
 use Rattle.mc_model.specs.Numbers.{is_member}
-use Rattle.mc_model.specs.Names.{is_held, place_of}
+use Rattle.mc_model.specs.Names.{place_of}
 use Rattle.mc_model.specs.Signals.{Signal}
 use Rattle.mc_angle.specs.Angle.{angle_of}
 use Rattle.mc_text.specs.declared.head.Head.{Head}
@@ -17,15 +17,13 @@ use Rattle.mc_text.specs.Points.{point_of}
 use Rattle.mc_text.specs.Judged.{Words, Lines}
 use Rattle.mc_text.specs.Rules.{number_in}
 use Rattle.mc_text.specs.Lists.{operand_at, next_operand}
-use Rattle.mc_text.proofs.ReadingGoesOn.{head_at}
-use Rattle.mc_text.proofs.Numbers.{held-place}
-use Rattle.mc_text.proofs.Kept.{held_more, place-more, operand_at-word}
+use Rattle.mc_text.proofs.Going.{head_at}
+use Rattle.mc_text.proofs.Kept.{held_more, numbers-word, place-more, operand_at-word}
 use Rattle.mc_rows.specs.Rows.{named}
 use Rattle.mc_pattern_text.specs.declared.reader.Operands.{Operands}
 use Rattle.mc_pattern_text.specs.Roles.{role_of, is_entangling, is_measuring, is_command}
 use Rattle.mc_pattern_text.specs.Value.{first_signal, second_signal, first_of, second_of}
-use Rattle.mc_pattern_text.specs.Kept.{AreMarked, IsSpelled, AreOperands}
-use Rattle.mc_pattern_text.specs.Kept.{Joins, Fills}
+use Rattle.mc_pattern_text.specs.Kept.{AreMarked, IsSpelled, AreOperands, Joins, Fills}
 use Rattle.mc_pattern_text.proofs.Sets.{set_stays}
 use Rattle.mc_pattern_text.proofs.Under.{added-word}
 
@@ -39,25 +37,20 @@ marked-more names more list marks are =
 -- a list with one more name
 member-last : (qs : List ℕ) (q r : ℕ) → is_member (qs ++ q ∷ []) r ≡ is_member qs r || nat_eq r q
 member-last qs q r =
-    list_any-append (nat_eq r) qs (q ∷ []) ∙ or_false (is_member qs r) (nat_eq r q)
-  where
-    or_false : (a b : Bool) → (a || (b || false)) ≡ (a || b)
-    or_false a b = grind arith
+    list_any-append (nat_eq r) qs (q ∷ []) ∙ ap (λ b. is_member qs r || b) (or-false (nat_eq r q))
 
 pub marked-word : (names list : List (List ℕ)) (marks marks' : Bits) (word : List ℕ) (q : ℕ)
     → AreMarked names list marks → place_of names word ≡ Some q
     → ((r : ℕ) → marks' r ≡ marks r || nat_eq r q) → AreMarked names (list ++ word ∷ []) marks'
 marked-word names list marks marks' word q are place more =
-    let held = held-place names word q place in
-    let number : number_in names word ≡ q = rw place refl in
-    let longer = map-append (number_in names) list (word ∷ []) in
+    let numbers = map (number_in names) list in
+    let longer = numbers-word names list numbers word q place
+    (record { held = are.held; numbers_are = refl }) in
     record {
-      held = list_all-append (is_held names) list (word ∷ []) ∙ rw (are.held, held) refl;
+      held = longer.held;
       marked = λ r.
-          let all : is_member (map (number_in names) (list ++ word ∷ [])) r
-          ≡ marks r || nat_eq r q =
-          rw (longer, number, member-last (map (number_in names) list) q r, are.marked r) refl in
-          more r ∙ sym all;
+          more r ∙ rw (are.marked r) (sym (member-last numbers q r))
+          ∙ ap (λ ns. is_member ns r) longer.numbers_are;
     }
 
 -- the words of a signal under more names, and with one more term
@@ -78,11 +71,10 @@ joined names words (w ∷ more) s s' are joins = joins words are
 operand_gate : (n : ℕ) (test : Option Head → Bool) (here : Words) (a : List ℕ)
     → operand_at n test here ≡ Some a → test (head_in here) ≡ true
 operand_gate n test [] a e = absurd (cc e)
-operand_gate n test (h ∷ words) a e = by_test (test (head_of h)) refl
-  where
-    by_test : (t : Bool) → test (head_of h) ≡ t → t ≡ true
-    by_test true f = refl
-    by_test false f = let e' = rw f at e in absurd (cc e')
+operand_gate n test (h ∷ words) a e = elim (cases_Bool (test (head_of h))) [
+  | inl t ↦ t
+  | inr f ↦ absurd (cc (rw f at e))
+]
 
 operand_cases : (n : ℕ) (test : Option Head → Bool) (before : Lines) (here : Words) (p : Point)
     (word : List ℕ) (P : List ℕ → Type 0) → n < 3 → p ≡ point_of before here
@@ -90,23 +82,21 @@ operand_cases : (n : ℕ) (test : Option Head → Bool) (before : Lines) (here :
     → ((a : List ℕ) → ¬ (p.count ≡ n + 1) → operand_at n test here ≡ Some a → P a)
     → (a : List ℕ) → operand_at n test (here ++ word ∷ []) ≡ Some a → P a
 operand_cases n test before here p word P few at comes stood a e =
-    by_tests (p.count == n + 1) (test p.head) refl refl
-  where
-    next : next_operand n test p (operand_at n test here) word ≡ Some a
-    next = rw at (operand_at-word n test before here word few) ∙ e
-
-    by_tests : (t s : Bool) → (p.count == n + 1) ≡ t → test p.head ≡ s → P a
-    by_tests true true one gate =
-        let is = rw (one, gate) at next in
-        let same : word ≡ a = cc is in
-        subst P same (comes (eqb-true p.count (n + 1) one) gate)
-    by_tests true false one gate =
-        let is : operand_at n test here ≡ Some a = rw (one, gate) at next in
-        let head : p.head ≡ head_in here = rw at (head_at before here) in
-        absurd (cc (operand_gate n test here a is, ap test head, gate))
-    by_tests false s one gate =
-        let is : operand_at n test here ≡ Some a = rw one at next in
-        stood a (λ same. absurd (cc (eq-eqb p.count (n + 1) same, one))) is
+    let next : next_operand n test p (operand_at n test here) word ≡ Some a =
+    rw at (operand_at-word n test before here word few) ∙ e in
+    elim (cases_eq p.count (n + 1)) [
+      | inl one ↦ elim (cases_Bool (test p.head)) [
+        | inl gate ↦
+            let is = rw (eq-eqb p.count (n + 1) one, gate) at next in
+            let same : word ≡ a = cc is in
+            subst P same (comes one gate)
+        | inr gate ↦
+            let is = rw (eq-eqb p.count (n + 1) one, gate) at next in
+            let head : p.head ≡ head_in here = rw at (head_at before here) in
+            absurd (cc (operand_gate n test here a is, ap test head, gate))
+      ]
+      | inr other ↦ stood a other (rw (ne_eqb p.count (n + 1) other) at next)
+    ]
 
 pub operands_more : {half : ℕ} (names more : List (List ℕ)) (o o' : Operands half)
     (before : Lines) (here : Words) (p : Point) (word : List ℕ) → p ≡ point_of before here

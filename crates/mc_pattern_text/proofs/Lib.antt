@@ -1,5 +1,4 @@
 pub mod NamedCommands
-pub mod Printing
 pub mod NamedSignals
 pub mod Marked
 pub mod Terms
@@ -10,12 +9,10 @@ pub mod LineOrder
 pub mod KeepingWord
 pub mod Made
 pub mod KeepingLine
-pub mod Spelling
 pub mod Starting
 mod CleanCommands
 mod CleanLines
-mod CleanText
-mod ReadBack
+pub mod ReadBack
 pub mod GoodTerms
 pub mod MadeCommands
 pub mod SoundLines

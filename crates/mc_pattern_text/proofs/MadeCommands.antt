@@ -1,21 +1,20 @@
 -- The pattern that lines make, with one more command.
-use Rattle.std.proofs.Common.{◌≡◌, ℕ, zero, suc, ◌*◌, ◌<◌, ◌-◌, ◌%◌, List, [], ◌∷◌, ◌++◌, Bool}
-use Rattle.std.proofs.Common.{false, ◌||◌, None, length, map, refl, sym, ap, ◌∙◌, arith}
-use Rattle.std.proofs.Common.{append_assoc, replicate, IsTrue}
-use Rattle.std.proofs.Common.{lt-ltb, ne_eqb}
-use Rattle.std.specs.Prelude.{ℤ, pos, negsuc}
+use Rattle.std.proofs.Common.{◌≡◌, ℕ, zero, suc, ◌*◌, ◌<◌, List, [], ◌∷◌}
+use Rattle.std.proofs.Common.{◌++◌, Bool, false, None, length, map, refl, sym, ap, ◌∙◌}
+use Rattle.std.proofs.Common.{arith, append_assoc, replicate, IsTrue, lt-ltb, ne_eqb, ℤ, pos}
+use Rattle.std.proofs.Common.{negsuc, unsigned_abs}
+use Rattle.std.specs.Int.{int_rem_euclid}
 use Rattle.std.specs.List.{list_any, IsDistinct}
 use Rattle.std.proofs.lemmas.List.{length-map, map-append}
 use Rattle.std.proofs.lemmas.List.Folds.{list_any-append}
-use Rattle.mc_angle.specs.Angle.{angle_of, steps_of, signed_number_of}
+use Rattle.mc_angle.specs.Angle.{angle_of, signed_number_of}
 use Rattle.mc_model.specs.Bits.{Bits, bits_of}
 use Rattle.mc_model.specs.Names.{Name, AreNames}
 use Rattle.mc_model.specs.Pattern.{Command, Prep, Ent, measured_by, has_constant}
 use Rattle.mc_model.specs.Steps.{is_permitted}
 use Rattle.mc_model.specs.Valid.{measured}
 use Rattle.mc_text.proofs.Kept.{number_in-more}
-use Rattle.mc_pattern.specs.Rules.{is_prep, is_stranger, is_undone, first_rule, command_rule}
-use Rattle.mc_pattern.specs.Rules.{marked}
+use Rattle.mc_pattern.specs.Rules.{is_prep, is_undone, first_rule, command_rule, marked}
 use Rattle.mc_pattern.specs.Typed.{IsTyped}
 use Rattle.mc_pattern.specs.Patterns.{IsBuilt, begun}
 use Rattle.mc_pattern.proofs.Built.{built_start, built_prep, built_push}
@@ -34,13 +33,6 @@ pub record IsMade (half : ℕ) (constants : Bool) (names inputs done : List Name
   pub built : IsBuilt half (begun names (length inputs) commands) marks
   pub measured : AreMarked names done (bits_of marks)
   pub plain : constants ≡ false → list_any has_constant commands ≡ false
-
-pub count_made : (half : ℕ) (constants : Bool) (names inputs done : List Name)
-    (spelled : List Spelled) (h : IsMade half constants names inputs done spelled)
-    → length h.commands ≡ length spelled
-count_made half constants names inputs done spelled h =
-    let all = ap length (h.are []) in
-    sym (simp length-map at all)
 
 pub no_marks : {half : ℕ} (names : List Name) (inputs : ℕ) (marks : List Bool)
     → IsBuilt half (begun names inputs []) marks → AreMarked names [] (bits_of marks)
@@ -65,41 +57,9 @@ made_inputs half constants names permitted valid =
       plain = λ none. refl;
     }
 
-neither : (a b : Bool) → a ≡ false → b ≡ false → (a || (b || false)) ≡ false
-neither a b e f = grind arith
-
 plain_more : (cs : List Command) (c : Command) → list_any has_constant cs ≡ false
     → has_constant c ≡ false → list_any has_constant (cs ++ c ∷ []) ≡ false
-plain_more cs c all one =
-    list_any-append has_constant cs (c ∷ [])
-    ∙ neither (list_any has_constant cs) (has_constant c) all one
-
-commands_more : (f : Spelled → Command) (spelled : List Spelled) (cs : List Command)
-    (one : Spelled) (c : Command) → map f spelled ≡ cs → f one ≡ c
-    → map f (spelled ++ one ∷ []) ≡ cs ++ c ∷ []
-commands_more f spelled cs one c all same = map-append f spelled (one ∷ []) ∙ rw (all, same) refl
-
-pub made_prep : (half : ℕ) (constants : Bool) (names inputs done : List Name)
-    (spelled : List Spelled) (a : Name) → IsMade half constants names inputs done spelled
-    → AreNames (names ++ a ∷ []) → length spelled < 262144
-    → IsMade half constants (names ++ a ∷ []) inputs done (spelled ++ spelled_n a ∷ [])
-made_prep half constants names inputs done spelled a h valid room =
-    let count = count_made half constants names inputs done spelled h in
-    let place = place-last names a valid.distinct in
-    record {
-      commands = h.commands ++ Prep (length names) ∷ [];
-      marks = h.marks;
-      are = λ more.
-          let along = append_assoc names (a ∷ []) more in
-          commands_more (command_by half ((names ++ a ∷ []) ++ more)) spelled h.commands
-          (spelled_n a) (Prep (length names))
-          (ap (λ (ns : List Name). map (command_by half ns) spelled) along ∙ h.are (a ∷ more))
-          (ap Prep (number_in-more (names ++ a ∷ []) more a (length names) place));
-      built = built_prep half names (length inputs) h.commands h.marks a h.built valid
-          (omega arith);
-      measured = marked-more names (a ∷ []) done (bits_of h.marks) h.measured;
-      plain = λ none. plain_more h.commands (Prep (length names)) (h.plain none) refl;
-    }
+plain_more cs c all one = list_any-append has_constant cs (c ∷ []) ∙ rw (all, one) refl
 
 -- a command that prepares nothing
 pub record IsNext (half : ℕ) (constants : Bool) (names : List Name) (marks : List Bool)
@@ -110,58 +70,72 @@ pub record IsNext (half : ℕ) (constants : Bool) (names : List Name) (marks : L
   pub rule : command_rule (length names) (bits_of marks) c ≡ None
   pub plain : constants ≡ false → has_constant c ≡ false
 
-pub made_push : (half : ℕ) (constants : Bool) (names inputs done done' : List Name)
-    (spelled : List Spelled) (one : Spelled) (c : Command) (marks' : List Bool)
-    (h : IsMade half constants names inputs done spelled)
-    → IsNext half constants names h.marks one c → length spelled < 262144
-    → length marks' ≡ length h.marks → bits_of marks' ≡ marked (bits_of h.marks) (measured_by c)
-    → AreMarked names done' (bits_of marks')
-    → IsMade half constants names inputs done' (spelled ++ one ∷ [])
-made_push half constants names inputs done done' spelled one c marks' h next room long same
-    measured =
-    let count = count_made half constants names inputs done spelled h in
-    record {
-      commands = h.commands ++ c ∷ [];
-      marks = marks';
-      are = λ more.
-          commands_more (command_by half (names ++ more)) spelled h.commands one c (h.are more)
-          (next.is more);
-      built = built_push half names (length inputs) h.commands h.marks marks' c h.built next.no_prep
-          next.typed next.rule (omega arith) long same;
-      measured = measured;
-      plain = λ none. plain_more h.commands c (h.plain none) (next.plain none);
-    }
+module _ (half : ℕ) (constants : Bool) (names inputs done : List Name) where
+  pub count_made : (spelled : List Spelled) (h : IsMade half constants names inputs done spelled)
+      → length h.commands ≡ length spelled
+  count_made spelled h =
+      let all = ap length (h.are []) in
+      sym (simp length-map at all)
+
+  pub made_prep : (spelled : List Spelled) (a : Name) → IsMade half constants names inputs done spelled
+      → AreNames (names ++ a ∷ []) → length spelled < 262144
+      → IsMade half constants (names ++ a ∷ []) inputs done (spelled ++ spelled_n a ∷ [])
+  made_prep spelled a h valid room =
+      let count = count_made spelled h in
+      let place = place-last names a valid.distinct in
+      record {
+        commands = h.commands ++ Prep (length names) ∷ [];
+        marks = h.marks;
+        are = λ more.
+            map-append (command_by half ((names ++ a ∷ []) ++ more)) spelled (spelled_n a ∷ [])
+            ∙ rw (
+              number_in-more (names ++ a ∷ []) more a (length names) place,
+              append_assoc names (a ∷ []) more,
+              h.are (a ∷ more),
+            ) refl;
+        built = built_prep half names (length inputs) h.commands h.marks a h.built valid (omega arith);
+        measured = marked-more names (a ∷ []) done (bits_of h.marks) h.measured;
+        plain = λ none. plain_more h.commands (Prep (length names)) (h.plain none) refl;
+      }
+
+  pub made_push : (done' : List Name) (spelled : List Spelled) (one : Spelled) (c : Command)
+      (marks' : List Bool) (h : IsMade half constants names inputs done spelled)
+      → IsNext half constants names h.marks one c → length spelled < 262144
+      → length marks' ≡ length h.marks → bits_of marks' ≡ marked (bits_of h.marks) (measured_by c)
+      → AreMarked names done' (bits_of marks')
+      → IsMade half constants names inputs done' (spelled ++ one ∷ [])
+  made_push done' spelled one c marks' h next room long same measured =
+      let count = count_made spelled h in
+      record {
+        commands = h.commands ++ c ∷ [];
+        marks = marks';
+        are = λ more.
+            map-append (command_by half (names ++ more)) spelled (one ∷ [])
+            ∙ rw (h.are more, next.is more) refl;
+        built = built_push half names (length inputs) h.commands h.marks marks' c h.built
+            next.no_prep next.typed next.rule (omega arith) long same;
+        measured = measured;
+        plain = λ none. plain_more h.commands c (h.plain none) (next.plain none);
+      }
 
 -- angles are less than a turn
-rest_small : (a m : ℕ) → 0 < m → a % m < m
-rest_small a m some = omega arith
-
-back_small : (r m : ℕ) → 0 < m → m - 1 - r < m
-back_small r m some = omega arith
-
-steps_small : (half : ℕ) (z : ℤ) → 0 < half → steps_of half z < 2 * half
-steps_small half (pos a) some = rest_small a (2 * half) (omega arith)
-steps_small half (negsuc a) some = back_small (a % (2 * half)) (2 * half) (omega arith)
-
-some_steps : (half : ℕ) → IsTrue (is_permitted half) → 0 < half
-some_steps zero permitted = absurd (cc permitted)
-some_steps (suc half) permitted = omega arith
+rest_small : (z : ℤ) (m : ℕ) → 0 < m → unsigned_abs (int_rem_euclid z (pos m)) < m
+rest_small (pos a) m some = omega arith
+rest_small (negsuc a) m some = omega arith
 
 pub angle_small : (half : ℕ) (word : List ℕ) → IsTrue (is_permitted half)
     → angle_of half word < 2 * half
-angle_small half word permitted =
-    steps_small half (signed_number_of word) (some_steps half permitted)
+angle_small zero word permitted = absurd (cc permitted)
+angle_small (suc half) word permitted =
+    rest_small (signed_number_of word) (2 * suc half) (omega arith)
 
 -- a command on qubits that are there and were not measured breaks no rule
-no_stranger : (n q : ℕ) → q < n → is_stranger n q ≡ false
-no_stranger n q lt = rw (lt-ltb q n lt) refl
-
 pub rule_one : (n : ℕ) (done : Bits) (q : ℕ) (members : List ℕ) → q < n → done q ≡ false
     → list_any (is_undone done) members ≡ false
     → first_rule n done (q ∷ []) false members ≡ None
-rule_one n done q members lt live all = rw (no_stranger n q lt, live, all) refl
+rule_one n done q members lt live all = rw (lt-ltb q n lt, live, all) refl
 
 pub rule_two : (n : ℕ) (done : Bits) (q r : ℕ) → q < n → r < n → done q ≡ false → done r ≡ false
     → (q ≡ r → ⊥) → command_rule n done (Ent q r) ≡ None
 rule_two n done q r lq lr live live' apart =
-    rw (no_stranger n q lq, no_stranger n r lr, live, live', ne_eqb q r apart) refl
+    rw (lt-ltb q n lq, lt-ltb r n lr, live, live', ne_eqb q r apart) refl

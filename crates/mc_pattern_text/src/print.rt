@@ -3,14 +3,13 @@
 ghost use Rattle.std.specs.Prelude.{◌≡◌, ◌++◌, ◌∷◌, [], ◌<◌, ◌≤◌, All, IfOk, OnOk, length, map};
 ghost use Rattle.std.specs.Prelude.{codes, take, if◌then◌else◌};
 ghost use Rattle.std.specs.List.{list_any};
-ghost use Rattle.mc_model.specs.Pattern.{Prep, Ent, Meas, has_constant as holds_constant};
+ghost use Rattle.mc_model.specs.Pattern.{has_constant as holds_constant};
 ghost use Rattle.mc_write.specs.Text.{line_text, text_of, words_behind};
 ghost use Rattle.mc_write.specs.Named.{name_at};
 ghost use Rattle.mc_pattern.specs.Commands.{plain_command};
 ghost use Rattle.mc_pattern_text.specs.Written.{IsNamed, AreNamed};
 ghost use Rattle.mc_pattern_text.specs.Canonical.{marked, command_line, signal_words, pattern_text};
 
-use mc_angle::Angle;
 use mc_lex::Kind;
 use mc_model::Memory;
 use mc_names::Names;
@@ -28,11 +27,9 @@ fn has_constant<const H: usize>(command: &Command<H>) -> bool
     ensures { result ≡ holds_constant (plain_command command.now) }
 {
     match command {
-        Command::Prep(_) => false,
-        Command::Ent(_, _) => false,
+        Command::Prep(_) | Command::Ent(_, _) => false,
         Command::Meas { s, t, .. } => s.constant() || t.constant(),
-        Command::FixX { s, .. } => s.constant(),
-        Command::FixZ { s, .. } => s.constant(),
+        Command::FixX { s, .. } | Command::FixZ { s, .. } => s.constant(),
     }
 }
 
@@ -63,14 +60,6 @@ fn print_inputs(text: &mut Vec<u8>, names: &Names, inputs: u16) -> Result<(), Me
     end_line(text)
 }
 
-/// Writes a signal as further words of a line.
-fn add_signal(text: &mut Vec<u8>, names: &Names, signal: &Signal) -> Result<(), Memory>
-    requires { All (λ k. k < length names.now) signal.now.members }
-    ensures { OnOk result (text.new.items ≡ text.old.items ++ words_behind (signal_words names.now signal.now)) }
-{
-    add_set(text, names, signal.members(), signal.constant())
-}
-
 /// Writes a signal behind a mark, where it is not empty.
 fn add_marked(text: &mut Vec<u8>, mark: &[u8], names: &Names, signal: &Signal) -> Result<(), Memory>
     requires { All (λ k. k < length names.now) signal.now.members }
@@ -81,49 +70,7 @@ fn add_marked(text: &mut Vec<u8>, mark: &[u8], names: &Names, signal: &Signal) -
         return Ok(());
     }
     add_word(text, mark)?;
-    add_signal(text, names, signal)
-}
-
-fn print_prep(text: &mut Vec<u8>, names: &Names, q: u16) -> Result<(), Memory>
-    requires { q < length names.now }
-    ensures { OnOk result (text.new.items ≡ text.old.items ++ line_text (command_line names.now (Prep q))) }
-{
-    start_line(text, b"n")?;
-    add_name(text, names, q)?;
-    end_line(text)
-}
-
-fn print_entangling(text: &mut Vec<u8>, names: &Names, q: u16, r: u16) -> Result<(), Memory>
-    requires first { q < length names.now }
-    requires second { r < length names.now }
-    ensures { OnOk result (text.new.items ≡ text.old.items ++ line_text (command_line names.now (Ent q r))) }
-{
-    start_line(text, b"e")?;
-    add_name(text, names, q)?;
-    add_name(text, names, r)?;
-    end_line(text)
-}
-
-fn print_measurement<const H: usize>(
-    text: &mut Vec<u8>,
-    names: &Names,
-    q: u16,
-    angle: &Angle<H>,
-    s: &Signal,
-    t: &Signal,
-) -> Result<(), Memory>
-    requires qubit { q < length names.now }
-    requires first { All (λ k. k < length names.now) s.now.members }
-    requires second { All (λ k. k < length names.now) t.now.members }
-    ensures { OnOk result (text.new.items ≡
-        text.old.items ++ line_text (command_line names.now (Meas q angle.now s.now t.now))) }
-{
-    start_line(text, b"m")?;
-    add_name(text, names, q)?;
-    add_number(text, angle.steps() as u32)?;
-    add_marked(text, b"s:", names, s)?;
-    add_marked(text, b"t:", names, t)?;
-    end_line(text)
+    add_set(text, names, signal.members(), signal.constant())
 }
 
 fn print_correction(
@@ -140,7 +87,7 @@ fn print_correction(
 {
     start_line(text, head)?;
     add_name(text, names, q)?;
-    add_signal(text, names, signal)?;
+    add_set(text, names, signal.members(), signal.constant())?;
     end_line(text)
 }
 
@@ -154,9 +101,25 @@ fn print_command<const H: usize>(
         text.old.items ++ line_text (command_line names.now (plain_command command.now))) }
 {
     match command {
-        Command::Prep(q) => print_prep(text, names, *q),
-        Command::Ent(q, r) => print_entangling(text, names, *q, *r),
-        Command::Meas { q, angle, s, t } => print_measurement(text, names, *q, angle, s, t),
+        Command::Prep(q) => {
+            start_line(text, b"n")?;
+            add_name(text, names, *q)?;
+            end_line(text)
+        }
+        Command::Ent(q, r) => {
+            start_line(text, b"e")?;
+            add_name(text, names, *q)?;
+            add_name(text, names, *r)?;
+            end_line(text)
+        }
+        Command::Meas { q, angle, s, t } => {
+            start_line(text, b"m")?;
+            add_name(text, names, *q)?;
+            add_number(text, angle.steps() as u32)?;
+            add_marked(text, b"s:", names, s)?;
+            add_marked(text, b"t:", names, t)?;
+            end_line(text)
+        }
         Command::FixX { q, s } => print_correction(text, b"x", names, *q, s),
         Command::FixZ { q, s } => print_correction(text, b"z", names, *q, s),
     }

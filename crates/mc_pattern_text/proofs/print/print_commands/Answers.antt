@@ -1,6 +1,6 @@
 use Rattle.std.proofs.Common.{arith}
 use Rattle.mc_pattern.specs.Commands.{plain_command}
-use Rattle.mc_pattern_text.proofs.Printing.{AreNamed-at}
+use Rattle.mc_pattern_text.proofs.ReadBack.{AreNamed-at}
 use Rattle.mc_pattern_text.proofs.print.print_commands.Goals as goal
 
 pub print_command-requires : goal.print_command-requires

@@ -1,6 +1,6 @@
 use Rattle.std.proofs.Common.{◌∙◌, arith}
 use Rattle.mc_text.specs.Judged.{section_lines}
-use Rattle.mc_pattern_text.proofs.Spelling.{spells}
+use Rattle.mc_pattern_text.proofs.Made.{spells}
 use Rattle.mc_pattern_text.proofs.SoundPatterns.{clean_is_pattern}
 use Rattle.mc_pattern_text.proofs.read.read_pattern.Goals as goal
 
