@@ -12,6 +12,7 @@ use Rattle.mc_pattern.specs.Rules.{is_undone}
 use Rattle.mc_pattern.proofs.Members.{none_by}
 use Rattle.mc_model.specs.Numbers.{is_member}
 use Rattle.mc_model.specs.Names.{is_held}
+use Rattle.mc_signal.proofs.RisingSets.{member_where, rising_where}
 use Rattle.mc_text.specs.declared.head.Head.{Head}
 use Rattle.mc_text.specs.declared.point.Point.{Point}
 use Rattle.mc_text.specs.Heads.{head_of}
@@ -20,15 +21,14 @@ use Rattle.mc_text.specs.Judged.{Words, Lines}
 use Rattle.mc_text.specs.Lists.{names_at}
 use Rattle.mc_text.specs.Places.{words_by}
 use Rattle.mc_text.proofs.Clean.{CleanWords}
-use Rattle.mc_text.proofs.Going.{point_of-more}
-use Rattle.mc_text.proofs.Places.{words_by-last}
+use Rattle.mc_text.proofs.ReadingGoesOn.{point_of-more}
+use Rattle.mc_text.proofs.WordsAdded.{words_by-last}
 use Rattle.mc_text.specs.declared.fault.Fault.TheVariants.{ListedTwice, NotMeasured}
 use Rattle.mc_text.specs.Rules.{number_in}
 use Rattle.mc_text.specs.Rules.{known_name}
 use Rattle.mc_text.proofs.Unbroken.{known_is, next_none, not_false, unbroken}
 use Rattle.mc_text.proofs.Numbers.{place-held}
 use Rattle.mc_rows.specs.Rows.{is_one, has_one, named}
-use Rattle.mc_rows.proofs.RisingSets.{member_where, rising_where}
 use Rattle.mc_rows.proofs.Sets.{name_no_one}
 use Rattle.mc_pattern_text.specs.Roles.{Role, first_term, second_term, term, role_of, is_defining}
 use Rattle.mc_pattern_text.specs.Value.{is_second, signal_in, first_of, second_of, added_by}

@@ -17,7 +17,7 @@ use Rattle.mc_text.specs.Points.{point_of}
 use Rattle.mc_text.specs.Judged.{Words, Lines}
 use Rattle.mc_text.specs.Rules.{number_in}
 use Rattle.mc_text.specs.Lists.{operand_at, next_operand}
-use Rattle.mc_text.proofs.Going.{head_at}
+use Rattle.mc_text.proofs.ReadingGoesOn.{head_at}
 use Rattle.mc_text.proofs.Kept.{held_more, numbers-word, place-more, operand_at-word}
 use Rattle.mc_rows.specs.Rows.{named}
 use Rattle.mc_pattern_text.specs.declared.reader.Operands.{Operands}

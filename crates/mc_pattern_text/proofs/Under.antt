@@ -15,9 +15,9 @@ use Rattle.mc_text.specs.Heads.{head_of}
 use Rattle.mc_text.specs.Points.{first_point, mark_of, next_point, point_of}
 use Rattle.mc_text.specs.Judged.{Words, Lines}
 use Rattle.mc_text.specs.Places.{words_by}
-use Rattle.mc_text.proofs.Going.{head_at, not_first, point_of-more}
+use Rattle.mc_text.proofs.ReadingGoesOn.{head_at, not_first, point_of-more}
 use Rattle.mc_text.proofs.Kept.{count_some}
-use Rattle.mc_text.proofs.Places.{words_by-word}
+use Rattle.mc_text.proofs.WordsAdded.{words_by-word}
 use Rattle.mc_pattern_text.specs.Roles.{Role, operand, term, role_in, role_of, role_behind}
 use Rattle.mc_pattern_text.specs.Roles.{is_measuring, is_correcting}
 use Rattle.mc_pattern_text.specs.Value.{first_of, second_of, added_by, first_signal, second_signal}
