@@ -1,68 +1,43 @@
 -- What a section without a fault says of the rows that its lines spell: their numbers have at most
 -- four digits, and their names and members are those of the graph.
-use Rattle.std.proofs.Common.{◌≡◌, ℕ, zero, suc, ◌+◌, ◌≤◌, ◌<◌, List, [], ◌∷◌, ◌++◌, Bool, true}
-use Rattle.std.proofs.Common.{false}
-use Rattle.std.proofs.Common.{not, ◌&&◌, Option, Some, None, length, refl, subst, arith, ne_eqb}
-use Rattle.std.proofs.Common.{nat_le}
-use Rattle.std.proofs.Common.{if◌then◌else◌, ◌==◌, All}
-use Rattle.std.specs.List.{AllByRecursion, filter, list_all}
-use Rattle.std.proofs.lemmas.Bool.{cases_Bool}
+use Rattle.std.proofs.Common.{◌≡◌, ℕ, suc, ◌+◌, ◌≤◌, ◌<◌, List, [], ◌∷◌, ◌++◌, Bool, true, false}
+use Rattle.std.proofs.Common.{not, ◌&&◌, Option, None, length, map, refl, subst, arith, ne_eqb}
+use Rattle.std.proofs.Common.{nat_le, nat_lt, sym, ◌∙◌, if◌then◌else◌, ◌==◌, All}
+use Rattle.std.specs.List.{AllByRecursion, list_all}
+use Rattle.std.proofs.lemmas.Bool.{and_parts, ltb-true}
 use Rattle.std.proofs.lemmas.Bool.Decides.{nat_tests}
-use Rattle.std.proofs.lemmas.List.Elements.{All-from_recursion}
-use Rattle.std.proofs.lemmas.List.Quantifiers.{position-Some}
-use mathlib.Core.Logic.{inl, inr}
-use Rattle.mc_lex.specs.Lines.{Item, word, bad, Line}
-use Rattle.mc_model.specs.Bits.{Bits}
-use Rattle.mc_model.specs.Names.{Name, name_eq, is_name, is_held, place_of}
-use Rattle.mc_model.specs.Numbers.{numbers_from}
-use Rattle.mc_model.specs.Signals.{AllAbove, IsRising}
+use Rattle.std.proofs.lemmas.List.Elements.{filter_map-append}
+use Rattle.mc_lex.specs.Lines.{Line}
+use Rattle.mc_model.specs.Names.{Name, is_held}
+use Rattle.mc_model.specs.Numbers.{is_member, numbers_where}
+use Rattle.mc_model.specs.Signals.{IsRising}
+use Rattle.mc_signal.proofs.RisingSets.{rising_where, member_where}
 use Rattle.mc_angle.specs.Number as spelled
 use Rattle.mc_angle.specs.Number.{is_digit, number_of}
-use Rattle.mc_text.specs.declared.fault.Fault.TheVariants.{NotName, NotDefined, NotNumber}
-use Rattle.mc_text.specs.Heads.{head_of}
+use Rattle.mc_text.specs.declared.fault.Fault.TheVariants.{NotNumber}
+use Rattle.mc_text.specs.Heads.{head_of, head_in, is_end}
 use Rattle.mc_text.specs.Points.{point_of}
-use Rattle.mc_text.specs.Judged.{Judgement, Place, Words, Lines, or_later, placed, words_of}
-use Rattle.mc_text.specs.Judged.{first_in_line, first_in_section, section_lines, is_last}
-use Rattle.mc_text.specs.Rules.{broken, or_next, known_name, number_in}
+use Rattle.mc_text.specs.Judged.{Judgement, Place, Words, Lines, first_in_section, section_lines}
+use Rattle.mc_text.specs.Rules.{known_name, number_in}
+use Rattle.mc_text.proofs.Behind.{behind_clean}
+use Rattle.mc_text.proofs.Clean.{CleanWords}
+use Rattle.mc_text.proofs.Members.{place-below}
+use Rattle.mc_text.proofs.Numbers.{place-held}
+use Rattle.mc_text.proofs.Unbroken.{known_is, next_none, not_false, unbroken}
 use Rattle.mc_rows.specs.declared.row.Row.{Row}
 use Rattle.mc_rows.specs.declared.row.Role.{Role}
 use Rattle.mc_rows.specs.declared.row.Role.TheVariants as role
 use Rattle.mc_rows.specs.declared.row.Shape.{Shape}
 use Rattle.mc_rows.specs.declared.row.Shape.TheVariants.{Bare, Numbered, Ranked, Listed}
 use Rattle.mc_rows.specs.declared.row.Shape.TheVariants.{Set, NamedSet, RankedSet}
-use Rattle.mc_rows.specs.Rows.{role_behind, role_in, is_number, is_name as is_named_role}
+use Rattle.mc_rows.specs.Rows.{role_behind, role_in, is_number, is_name as is_named_role, named}
 use Rattle.mc_rows.specs.Rows.{words_from, members_in, number_by, name_by, row_in, rows_in}
+use Rattle.mc_rows.specs.Rows.{spelled_row}
 use Rattle.mc_rows.specs.Judge.{Kind, judge_by, lacks_by, row_rules}
 use Rattle.mc_rows.specs.Kept.{has_name}
-
--- the numbers that pass a test, in order and below a bound
-above_from : (p : Bits) (r q n : ℕ) → r < q → AllAbove r (filter p (numbers_from q n))
-above_from p r q zero lt = tt
-above_from p r q (suc n) lt = elim (cases_Bool (p q)) [
-  | inl e ↦ rw e (lt, above_from p r (suc q) n (omega arith))
-  | inr e ↦ rw e (above_from p r (suc q) n (omega arith))
-]
-
-rising_from : (p : Bits) (q n : ℕ) → IsRising (filter p (numbers_from q n))
-rising_from p q zero = tt
-rising_from p q (suc n) = elim (cases_Bool (p q)) [
-  | inl e ↦ rw e (above_from p q (suc q) n (omega arith), rising_from p (suc q) n)
-  | inr e ↦ rw e (rising_from p (suc q) n)
-]
-
-below_from : (p : Bits) (q n m : ℕ) → q + n ≤ m
-    → AllByRecursion (λ (k : ℕ). k < m) (filter p (numbers_from q n))
-below_from p q zero m le = tt
-below_from p q (suc n) m le = elim (cases_Bool (p q)) [
-  | inl e ↦ rw e (omega arith, below_from p (suc q) n m (omega arith))
-  | inr e ↦ rw e (below_from p (suc q) n m (omega arith))
-]
+use Rattle.mc_rows.proofs.Within.{all_members}
 
 -- a number of at most four digits
-both : (a b : Bool) → (a && b) ≡ true → (a ≡ true) × (b ≡ true)
-both true b e = (refl, e)
-both false b e = absurd (cc e)
-
 digit_top : (b : ℕ) → is_digit b ≡ true → b ≤ 57
 digit_top b e = grind (arith, nat_tests)
 
@@ -74,60 +49,34 @@ too_long n b h = grind (arith, nat_tests)
 number_small : (w : List ℕ) → spelled.is_number w ≡ true → number_of w ≤ 9999
 number_small [] e = omega arith
 number_small (a ∷ []) e =
-    let x = digit_top a (both (is_digit a) true e).0 in omega (arith, x)
+    let x = digit_top a (and_parts (is_digit a) true e).0 in omega (arith, x)
 number_small (a ∷ b ∷ []) e =
-    let m = both (is_digit a) (is_digit b && true) e in
+    let m = and_parts (is_digit a) (is_digit b && true) e in
     let x = digit_top a m.0 in
-    let y = digit_top b (both (is_digit b) true m.1).0 in omega (arith, x, y)
+    let y = digit_top b (and_parts (is_digit b) true m.1).0 in omega (arith, x, y)
 number_small (a ∷ b ∷ c ∷ []) e =
-    let m = both (is_digit a) (is_digit b && (is_digit c && true)) e in
-    let n = both (is_digit b) (is_digit c && true) m.1 in
+    let m = and_parts (is_digit a) (is_digit b && (is_digit c && true)) e in
+    let n = and_parts (is_digit b) (is_digit c && true) m.1 in
     let x = digit_top a m.0 in
     let y = digit_top b n.0 in
-    let z = digit_top c (both (is_digit c) true n.1).0 in omega (arith, x, y, z)
+    let z = digit_top c (and_parts (is_digit c) true n.1).0 in omega (arith, x, y, z)
 number_small (a ∷ b ∷ c ∷ d ∷ []) e =
-    let m = both (is_digit a) (is_digit b && (is_digit c && (is_digit d && true))) e in
-    let n = both (is_digit b) (is_digit c && (is_digit d && true)) m.1 in
-    let o = both (is_digit c) (is_digit d && true) n.1 in
+    let m = and_parts (is_digit a) (is_digit b && (is_digit c && (is_digit d && true))) e in
+    let n = and_parts (is_digit b) (is_digit c && (is_digit d && true)) m.1 in
+    let o = and_parts (is_digit c) (is_digit d && true) n.1 in
     let x = digit_top a m.0 in
     let y = digit_top b n.0 in
     let z = digit_top c o.0 in
-    let u = digit_top d (both (is_digit d) true o.1).0 in omega (arith, x, y, z, u)
+    let u = digit_top d (and_parts (is_digit d) true o.1).0 in omega (arith, x, y, z, u)
 number_small (a ∷ b ∷ c ∷ d ∷ e ∷ w) h =
     absurd (cc (too_long (length w) (list_all is_digit (a ∷ b ∷ c ∷ d ∷ e ∷ w)) h))
 
 -- the number of a name that is held
 held_below : (names : List Name) (w : Name) → is_held names w ≡ true
     → number_in names w < length names
-held_below [] w e = absurd (cc e)
-held_below (n ∷ ns) w e = by_place (place_of (n ∷ ns) w) refl
-  where
-    by_place : (p : Option ℕ) → place_of (n ∷ ns) w ≡ p → number_in (n ∷ ns) w < length (n ∷ ns)
-    by_place None f = rw f (omega arith)
-    by_place (Some q) f = rw f ((position-Some (name_eq w) (n ∷ ns) q [] f).0)
-
--- what is judged of words that are taken
-later_both : (a b : Option (Judgement × Place)) → or_later a b ≡ None → (a ≡ None) × (b ≡ None)
-later_both None b e = (refl, e)
-later_both (Some first) b e = absurd (cc e)
-
-placed_none : (place : Place) (judged : Option Judgement) → placed place judged ≡ None
-    → judged ≡ None
-placed_none place None e = refl
-placed_none place (Some judged) e = absurd (cc e)
-
-next_first : (a b : Option Judgement) → or_next a b ≡ None → a ≡ None
-next_first None b e = refl
-next_first (Some judged) b e = absurd (cc e)
-
-spells : (t : Bool) → broken ((not t, NotNumber) ∷ []) ≡ None → t ≡ true
-spells true e = refl
-spells false e = absurd (cc e)
-
-holds_name : (t u : Bool) → broken ((not t, NotName) ∷ (not u, NotDefined) ∷ []) ≡ None → u ≡ true
-holds_name true true e = refl
-holds_name true false e = absurd (cc e)
-holds_name false u e = absurd (cc e)
+held_below names w e =
+    let place = place-held names w e in
+    rw place.1 (place-below names w place.0 place.1)
 
 -- no further word of a row has a role
 pick : (test : Role → Bool) (t : Bool) (a b : Role) → test a ≡ false → test b ≡ false
@@ -181,26 +130,6 @@ pub record IsFit (n : ℕ) (kind : Kind) (row : Row) : Type 0 where
   pub rising : IsRising row.set
 
 module _ (kind : Kind) (names : List Name) where
-  -- nothing is against the words of a line behind others, and its end
-  CleanFrom : Lines → Words → Words → Type 0
-  CleanFrom before here [] = (row_rules kind names).lacks before here ≡ None
-  CleanFrom before here (w ∷ ws) =
-      ((row_rules kind names).judge before here w ≡ None) × CleanFrom before (here ++ w ∷ []) ws
-
-  clean_words : (before : Lines) (here : Words) (items : List Item) (lack : Place)
-      → first_in_line (row_rules kind names) before here items lack ≡ None
-      → CleanFrom before here (words_of items)
-  unfolding CleanFrom
-  clean_words before here [] lack e = placed_none lack _ e
-  clean_words before here (word bytes line column ∷ items) lack e =
-      let parts = later_both
-      (placed (line, column) ((row_rules kind names).judge before here bytes))
-      (first_in_line (row_rules kind names) before (here ++ bytes ∷ []) items lack) e in (
-        placed_none (line, column) ((row_rules kind names).judge before here bytes) parts.0,
-        clean_words before (here ++ bytes ∷ []) items lack parts.1,
-      )
-  clean_words before here (bad line column ∷ items) lack e = absurd (cc e)
-
   -- a word behind the record word by its role
   judged : Lines → Words → Role → List ℕ → Option Judgement
   judged before here r w =
@@ -210,14 +139,15 @@ module _ (kind : Kind) (names : List Name) where
   number_judged : (before : Lines) (here : Words) (w : List ℕ)
       → judged before here role.Number w ≡ None → number_of w ≤ 9999
   unfolding judged
-  number_judged before here w e = number_small w (spells (spelled.is_number w) e)
+  number_judged before here w e =
+      let t = spelled.is_number w in
+      number_small w (not_false t (unbroken (not t) NotNumber [] e).0)
 
   name_judged : (before : Lines) (here : Words) (w : List ℕ)
       → judged before here role.Name w ≡ None → number_in names w < length names
   unfolding judged
   name_judged before here w e =
-      held_below names w (holds_name (is_name w) (is_held names w)
-      (next_first (known_name names w) _ e))
+      held_below names w (known_is names w (next_none (known_name names w) _ e).0).1
 
   first_judged : (before : Lines) (h w : List ℕ) (s : Shape) → kind.shape (head_of h) ≡ s
       → (row_rules kind names).judge before (h ∷ []) w ≡ None
@@ -252,9 +182,8 @@ module _ (kind : Kind) (names : List Name) where
       by_test false = omega arith
 
   number_fits : (before : Lines) (h : List ℕ) (ws : Words) (s : Shape)
-      → kind.shape (head_of h) ≡ s → CleanFrom before (h ∷ []) ws
+      → kind.shape (head_of h) ≡ s → CleanWords (row_rules kind names) before (h ∷ []) ws
       → number_by (words_from is_number s 1 ws) ≤ 9999
-  unfolding CleanFrom
   number_fits before h [] s e clean = omega arith
   number_fits before h (a ∷ ws) Numbered e clean =
       one_number Numbered a ws
@@ -277,9 +206,9 @@ module _ (kind : Kind) (names : List Name) where
   -- the name is the first word of a row, or behind its number
   name_first : (before : Lines) (h : List ℕ) (ws : Words) (s : Shape)
       → kind.shape (head_of h) ≡ s → role_in s 1 ≡ role.Name
-      → ((n : ℕ) → 2 ≤ n → is_named_role (role_behind s n) ≡ false) → CleanFrom before (h ∷ []) ws
+      → ((n : ℕ) → 2 ≤ n → is_named_role (role_behind s n) ≡ false)
+      → CleanWords (row_rules kind names) before (h ∷ []) ws
       → name_by names (words_from is_named_role s 1 ws) < length names
-  unfolding CleanFrom
   name_first before h [] s e r none clean =
       let lacks = rw r at (first_lacks before h s e clean) in absurd (cc lacks)
   name_first before h (a ∷ ws) s e r none clean =
@@ -289,9 +218,8 @@ module _ (kind : Kind) (names : List Name) where
 
   name_second : (before : Lines) (h : List ℕ) (ws : Words) (s : Shape)
       → kind.shape (head_of h) ≡ s → role_in s 1 ≡ role.Number → role_in s 2 ≡ role.Name
-      → CleanFrom before (h ∷ []) ws
+      → CleanWords (row_rules kind names) before (h ∷ []) ws
       → name_by names (words_from is_named_role s 1 ws) < length names
-  unfolding CleanFrom
   name_second before h [] s e q r clean =
       let lacks = rw q at (first_lacks before h s e clean) in absurd (cc lacks)
   name_second before h (a ∷ []) s e q r clean =
@@ -302,7 +230,8 @@ module _ (kind : Kind) (names : List Name) where
       (name_judged before (h ∷ a ∷ []) b judgement)
 
   name_fits : (before : Lines) (h : List ℕ) (ws : Words) (s : Shape)
-      → kind.shape (head_of h) ≡ s → CleanFrom before (h ∷ []) ws → has_name s ≡ true
+      → kind.shape (head_of h) ≡ s → CleanWords (row_rules kind names) before (h ∷ []) ws
+      → has_name s ≡ true
       → name_by names (words_from is_named_role s 1 ws) < length names
   name_fits before h ws Bare e clean has = absurd (cc has)
   name_fits before h ws Numbered e clean has = absurd (cc has)
@@ -317,42 +246,47 @@ module _ (kind : Kind) (names : List Name) where
       (λ n le. rw (ne_eqb n 1 (λ same. omega (arith, le, same)))
       (pick is_named_role (n == 2) role.Colon role.Member refl refl)) clean
 
-  row_fits : (before : Lines) (ws : Words) → CleanFrom before [] ws
+  row_fits : (before : Lines) (ws : Words) → CleanWords (row_rules kind names) before [] ws
       → IsFit (length names) kind (row_in kind.shape names ws)
-  unfolding CleanFrom
   row_fits before [] clean = absurd (cc clean)
   row_fits before (h ∷ ws) clean =
       let n = length names in
       let s = kind.shape (head_of h) in
+      let p = is_member (map (number_in names) (named (members_in kind.shape (h ∷ ws)))) in
       record {
         number = number_fits before h ws s refl clean.1;
         name = name_fits before h ws s refl clean.1;
-        members = All-from_recursion (λ (k : ℕ). k < n) _ (below_from _ 0 n n (omega arith));
-        rising = rising_from _ 0 n;
+        members = all_members (λ q. q < n) (numbers_where p n) (λ q member.
+            ltb-true q n (and_parts (p q) (nat_lt q n) (sym (member_where p n q) ∙ member)).1);
+        rising = rising_where p n;
       }
 
-  pub rows_fit : (before : Lines) (lines : List Line) (end : Place)
-      → first_in_section (row_rules kind names) before lines end ≡ None
-      → AllByRecursion (IsFit (length names) kind) (rows_in kind.shape names (section_lines lines))
-  rows_fit before [] end clean = absurd (cc clean)
-  rows_fit before (line ∷ lines) end clean =
-      let words = words_of line.items in
-      let rest = if is_last line then None
-      else first_in_section (row_rules kind names) (before ++ words ∷ []) lines end in
-      let parts = later_both (first_in_line (row_rules kind names) before [] line.items line.lack)
-      rest clean in
-      by_test (is_last line) refl parts.1
-      (row_fits before words (clean_words before [] line.items line.lack parts.0))
-      (rows_fit (before ++ words ∷ []) lines end)
+  -- the rows of a section without a fault
+  AreFit : Lines → Type 0
+  AreFit lines = AllByRecursion (IsFit (length names) kind) (rows_in kind.shape names lines)
+
+  line_more : (before : Lines) (words : Words) → AreFit before
+      → CleanWords (row_rules kind names) before [] words → AreFit (before ++ words ∷ [])
+  unfolding AreFit
+  line_more before words fit clean =
+      rw (filter_map-append (spelled_row kind.shape names) before (words ∷ []))
+      (joined (rows_in kind.shape names before) (rows_in kind.shape names (words ∷ [])) fit
+      (by_test (is_end (head_in words)) refl))
     where
-      by_test : (t : Bool) → is_last line ≡ t
-          → (if t then None else first_in_section (row_rules kind names)
-          (before ++ words_of line.items ∷ []) lines end) ≡ None
-          → IsFit (length names) kind (row_in kind.shape names (words_of line.items))
-          → (first_in_section (row_rules kind names) (before ++ words_of line.items ∷ []) lines end
-          ≡ None → AllByRecursion (IsFit (length names) kind)
-          (rows_in kind.shape names (section_lines lines)))
-          → AllByRecursion (IsFit (length names) kind)
-          (rows_in kind.shape names (section_lines (line ∷ lines)))
-      by_test true e later fit rest = rw e tt
-      by_test false e later fit rest = rw e (fit, rest later)
+      joined : (rows more : List Row) → AllByRecursion (IsFit (length names) kind) rows
+          → AllByRecursion (IsFit (length names) kind) more
+          → AllByRecursion (IsFit (length names) kind) (rows ++ more)
+      joined [] more fit rest = rest
+      joined (row ∷ rows) more fit rest = (fit.0, joined rows more fit.1 rest)
+
+      by_test : (t : Bool) → is_end (head_in words) ≡ t
+          → AllByRecursion (IsFit (length names) kind) (rows_in kind.shape names (words ∷ []))
+      by_test true e = rw e tt
+      by_test false e = rw e (row_fits before words clean, tt)
+
+  pub rows_fit : (lines : List Line) (end : Place)
+      → first_in_section (row_rules kind names) [] lines end ≡ None
+      → AllByRecursion (IsFit (length names) kind) (rows_in kind.shape names (section_lines lines))
+  unfolding AreFit
+  rows_fit lines end clean =
+      behind_clean (row_rules kind names) AreFit line_more lines end tt clean

@@ -208,5 +208,5 @@ pub cert_fits : ShortBoundsAreFew → (g : OpenGraph) → size g ≤ 256 → (ki
 cert_fits few g small kind lines end k clean cert value apart =
     let rows = rows_in (shape_in kind) g.names (section_lines lines) in
     subst (IsCertOf g) (sym value)
-    (fits_by few g small kind rows k (rows_fit (cert_kind kind) g.names [] lines end clean)
+    (fits_by few g small kind rows k (rows_fit (cert_kind kind) g.names lines end clean)
     (subst HasApartRows value apart))

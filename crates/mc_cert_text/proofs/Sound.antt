@@ -1,10 +1,12 @@
 -- The rows of a certificate that fits a graph are sound, and say the certificate.
 use Rattle.std.proofs.Common.{◌≡◌, ℕ, ◌≤◌, ◌<◌, All, true, List, [], ◌∷◌, ◌++◌}
 use Rattle.std.proofs.Common.{map}
-use Rattle.std.proofs.Common.{length, drop, refl, sym, ap, ◌∙◌, arith, append_assoc}
-use Rattle.std.proofs.Common.{Option, Some, None, slice_index_or}
+use Rattle.std.proofs.Common.{length, drop, refl, sym, ap, ap₂, ◌∙◌, arith, append_assoc}
+use Rattle.std.proofs.Common.{Option, Some, None, slice_index_or, if◌then◌else◌, ◌==◌}
 use Rattle.std.proofs.lemmas.List.{map-append}
 use Rattle.std.proofs.lemmas.List.Elements.{All-nil, All-head, All-tail}
+use Rattle.mc_lex.specs.declared.kind.Kind.{Kind}
+use Rattle.mc_lex.specs.declared.kind.Kind.TheVariants.{Flow, NoFlow, NoCausal, Least}
 use Rattle.mc_lex.specs.Lines.{lines_of}
 use Rattle.mc_model.specs.Names.{Name}
 use Rattle.mc_model.specs.Signals.{IsRising}
@@ -204,50 +206,26 @@ AreReadBack = (g : OpenGraph) (cert : PlainCert) → IsOpenGraph g → IsCertOf 
     → cert_in (kind_of_cert cert) g.names
     (section_lines (drop 1 (lines_of (cert_text g.names cert)))) ≡ cert
 
+-- the kind that the first bytes of a text say
+kind_at : List ℕ → Kind
+kind_at text =
+    if slice_index_or text 0 0 == 102 then Flow
+    else if slice_index_or text 0 0 == 108 then Least
+    else if slice_index_or text 2 0 == 102 then NoFlow
+    else NoCausal
+
+kind_said : (names : List Name) (cert : PlainCert)
+    → kind_at (cert_text names cert) ≡ kind_of_cert cert
+unfolding kind_at
+kind_said names (flow f) = refl
+kind_said names (noflow rows) = refl
+kind_said names (nocausal set) = refl
+kind_said names (least b) = refl
+
 pub same_cert : AreReadBack → (g : OpenGraph) (c d : PlainCert) → IsOpenGraph g → IsCertOf g c
     → IsCertOf g d → cert_text g.names c ≡ cert_text g.names d → c ≡ d
-same_cert back g c d valid fits fits' e = by_kind c d fits fits' e
-  where
-    read : PlainCert → List ℕ → PlainCert
-    read c text = cert_in (kind_of_cert c) g.names (section_lines (drop 1 (lines_of text)))
-
-    byte_at : ℕ → List ℕ → ℕ
-    byte_at i text = slice_index_or text i 0
-
-    by_kind : (c d : PlainCert) → IsCertOf g c → IsCertOf g d
-        → cert_text g.names c ≡ cert_text g.names d → c ≡ d
-    by_kind (flow f) (flow h) fits fits' e =
-        sym (back g (flow f) valid fits) ∙ ap (read (flow f)) e ∙ back g (flow h) valid fits'
-    by_kind (noflow rows) (noflow others) fits fits' e =
-        sym (back g (noflow rows) valid fits) ∙ ap (read (noflow rows)) e
-        ∙ back g (noflow others) valid fits'
-    by_kind (nocausal set) (nocausal other) fits fits' e =
-        sym (back g (nocausal set) valid fits) ∙ ap (read (nocausal set)) e
-        ∙ back g (nocausal other) valid fits'
-    by_kind (flow f) (noflow rows) fits fits' e =
-        let byte : 102 ≡ 110 = ap (byte_at 0) e in absurd (omega (arith, byte))
-    by_kind (flow f) (nocausal set) fits fits' e =
-        let byte : 102 ≡ 110 = ap (byte_at 0) e in absurd (omega (arith, byte))
-    by_kind (noflow rows) (flow f) fits fits' e =
-        let byte : 110 ≡ 102 = ap (byte_at 0) e in absurd (omega (arith, byte))
-    by_kind (noflow rows) (nocausal set) fits fits' e =
-        let byte : 102 ≡ 99 = ap (byte_at 2) e in absurd (omega (arith, byte))
-    by_kind (nocausal set) (flow f) fits fits' e =
-        let byte : 110 ≡ 102 = ap (byte_at 0) e in absurd (omega (arith, byte))
-    by_kind (nocausal set) (noflow rows) fits fits' e =
-        let byte : 99 ≡ 102 = ap (byte_at 2) e in absurd (omega (arith, byte))
-    by_kind (least b) (least other) fits fits' e =
-        sym (back g (least b) valid fits) ∙ ap (read (least b)) e
-        ∙ back g (least other) valid fits'
-    by_kind (least b) (flow f) fits fits' e =
-        let byte : 108 ≡ 102 = ap (byte_at 0) e in absurd (omega (arith, byte))
-    by_kind (least b) (noflow rows) fits fits' e =
-        let byte : 108 ≡ 110 = ap (byte_at 0) e in absurd (omega (arith, byte))
-    by_kind (least b) (nocausal set) fits fits' e =
-        let byte : 108 ≡ 110 = ap (byte_at 0) e in absurd (omega (arith, byte))
-    by_kind (flow f) (least b) fits fits' e =
-        let byte : 102 ≡ 108 = ap (byte_at 0) e in absurd (omega (arith, byte))
-    by_kind (noflow rows) (least b) fits fits' e =
-        let byte : 110 ≡ 108 = ap (byte_at 0) e in absurd (omega (arith, byte))
-    by_kind (nocausal set) (least b) fits fits' e =
-        let byte : 110 ≡ 108 = ap (byte_at 0) e in absurd (omega (arith, byte))
+same_cert back g c d valid fits fits' e =
+    let read : Kind → List ℕ → PlainCert =
+    λ kind text. cert_in kind g.names (section_lines (drop 1 (lines_of text))) in
+    let kinds = sym (kind_said g.names c) ∙ ap kind_at e ∙ kind_said g.names d in
+    sym (back g c valid fits) ∙ ap₂ read kinds e ∙ back g d valid fits'

@@ -8,7 +8,8 @@ use Rattle.mc_write.specs.Text.{Line, line_text, text_of}
 use Rattle.mc_rows.specs.Written.{row_line}
 use Rattle.mc_cert_text.specs.Tables.{flow_shape}
 use Rattle.mc_cert_text.specs.Canonical.{flow_row}
-use Rattle.mc_cert_text.proofs.Printing.{at_place, all_more, rows_more}
+use Rattle.mc_rows.proofs.Printing.{rows_more}
+use Rattle.mc_cert_text.proofs.Printing.{at_place, all_more}
 use Rattle.mc_cert_text.proofs.print.print_flow_rows.Goals as goal
 
 pub rows-init : goal.rows-init
