@@ -257,33 +257,24 @@ pub(crate) fn take_operand<const H: usize>(
     ensures err { IfErr result (λ stop. IsStop stop
         (judge_by kept.old.constants (known_of kept.old) point.last (role_of point) word.now)) }
 {
+    let constants = kept.constants;
+    let names = &kept.names;
+    let marks = &kept.marks;
     let operands = &mut kept.operands;
     match (point.head, point.count, point.mark) {
-        (_, 1, _) => take_first(&kept.names, &kept.marks, &mut operands.first, word),
+        (_, 1, _) => take_first(names, marks, &mut operands.first, word),
         (Some(Head::E), 2, _) => {
             let first = operands.first;
-            take_second(&kept.names, &kept.marks, first, &mut operands.second, word)
+            take_second(names, marks, first, &mut operands.second, word)
         }
         (Some(Head::M), 2, _) => take_angle(&mut operands.angle, word),
         (Some(Head::M), _, None) => take_opening(word),
         (Some(Head::M), _, Some(Mark::S)) if Mark::read(word) == Some(Mark::T) => Ok(()),
         (Some(Head::M), _, Some(Mark::S)) | (Some(Head::X | Head::Z), _, _) => {
-            take_term(
-                &kept.names,
-                &kept.marks,
-                kept.constants,
-                &mut operands.s,
-                word,
-            )
+            take_term(names, marks, constants, &mut operands.s, word)
         }
         (Some(Head::M), _, Some(Mark::T)) => {
-            take_term(
-                &kept.names,
-                &kept.marks,
-                kept.constants,
-                &mut operands.t,
-                word,
-            )
+            take_term(names, marks, constants, &mut operands.t, word)
         }
         _ => Err(Stop::Fault(Fault::Surplus)),
     }
