@@ -4,8 +4,7 @@ use Rattle.std.proofs.Common.{Option, None, length, map, refl, sym, ap, ◌∙�
 use Rattle.std.proofs.Common.{inl, inr, subst, if◌then◌else◌}
 use Rattle.std.specs.List.{list_all, list_any}
 use Rattle.std.proofs.lemmas.Bool.{and_parts, cases_Bool, eqb-true, or_cases}
-use Rattle.std.proofs.lemmas.List.Elements.{filter-append}
-use Rattle.std.proofs.lemmas.List.Folds.{list_all-append, list_any-append}
+use Rattle.std.proofs.lemmas.List.Folds.{list_all-append}
 use Rattle.mc_model.specs.Bits.{Bits}
 use Rattle.mc_model.specs.Signals.{IsRising}
 use Rattle.mc_pattern.specs.Rules.{is_undone}
